@@ -1,0 +1,6 @@
+pub mod Bools
+pub mod Sum
+pub mod Product
+pub mod Table
+pub mod Mask
+pub mod Integer

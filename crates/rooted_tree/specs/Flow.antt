@@ -1,0 +1,209 @@
+-- The cost of the flow on a tree, and potentials: weak and strong duality.
+use mathlib.Core.Path.{_≡_, refl, sym, ap, _∙_}
+use mathlib.Core.Bool.{Bool, true, false, not}
+use mathlib.Core.Logic.{_⊎_, inl, inr, ⊎-elim}
+use Prim.Native.Nat.{ℕ, _+_, _*_, _-_, _≤_, _<_}
+use native.Mathlib.Nat.{mul-le-mul-right}
+use native.Mathlib.Omega.{arith}
+use lib.Dec.{eqb, leb}
+use borrow.Author.Tests.{ne-eqb, le-leb, lt-leb}
+use Rattle.arithmetic.specs.Bools.{case≡, case≤, eqb-self}
+use Rattle.arithmetic.specs.Sum.{pick, pick-le, sum, sum-ext, sum-le, sum-lt, sum-add}
+use Rattle.arithmetic.specs.Product.{gap, gap-comm, Agrees, product-le, product-eq}
+use Rattle.rooted_tree.specs.Chain.{below}
+use Rattle.rooted_tree.specs.Rooted.{Rooted, above, above-root, above-step}
+use Rattle.rooted_tree.specs.Subtotal.{subtotal, inner, subtotal-root, by-parts}
+
+-- what it costs to move m to v along the edges of the tree, of length l x above x
+unfoldable pub flowCost : ℕ → ℕ → (ℕ → ℕ) → (ℕ → ℕ) → (ℕ → ℕ) → (ℕ → ℕ) → ℕ
+flowCost n r p l m v = sum n (λ x. inner r x (l x * gap (subtotal p n m x) (subtotal p n v x)))
+
+-- it does not matter which mass is moved to which
+pub flow-swap : (n r : ℕ) (p l m v : ℕ → ℕ) → flowCost n r p l m v ≡ flowCost n r p l v m
+unfolding flowCost
+flow-swap n r p l m v =
+    sum-ext n _ _ (λ x h. ap (λ (g : ℕ). inner r x (l x * g)) (gap-comm (subtotal p n m x) (subtotal p n v x)))
+
+-- a longer edge that has a flow costs more
+pub flow-longer : (n r : ℕ) (p l k m v : ℕ → ℕ) → ((x : ℕ) → x < n → (x ≡ r → ⊥) → l x ≤ k x)
+    → (a : ℕ) → a < n → (a ≡ r → ⊥) → l a < k a → subtotal p n v a < subtotal p n m a → flowCost n r p l m v < flowCost n r p k m v
+unfolding flowCost
+flow-longer n r p l k m v h a la d s f =
+    sum-lt n _ _ a la
+    (rw (ne-eqb a r d) (longer (l a) (k a) (subtotal p n m a) (subtotal p n v a) s f))
+    (λ x lx. case≡ x r
+    (λ e. rw (e, eqb-self r) (omega arith))
+    (λ e. rw (ne-eqb x r e) (mul-le-mul-right (gap (subtotal p n m x) (subtotal p n v x)) (h x lx e))))
+  where
+    longer : (i j u w : ℕ) → i < j → w < u → i * gap u w < j * gap u w
+    longer i j u w lt ne = omega (arith, mul-le-mul-right (gap u w) lt)
+
+module _ {n r : ℕ} {p : ℕ → ℕ} (t : Rooted n r p) (U l m v : ℕ → ℕ) (same : sum n m ≡ sum n v) where
+  A : ℕ → ℕ
+  A x = subtotal p n m x
+
+  B : ℕ → ℕ
+  B x = subtotal p n v x
+
+  -- the two sides at one vertex
+  left : ℕ → ℕ
+  left x = U x * A x + inner r x (U (p x) * B x)
+
+  right : ℕ → ℕ
+  right x = inner r x (U (p x) * A x) + U x * B x + inner r x (l x * gap (A x) (B x))
+
+  -- at the root they are equal
+  root-sides : left r ≡ right r
+  unfolding left right A B
+  root-sides =
+      rw (eqb-self r)
+      (omega (arith, ap (λ (z : ℕ). U r * z) (subtotal-root t m ∙ same ∙ sym (subtotal-root t v))))
+
+  left-sum : sum n left ≡ sum n (λ x. U x * A x) + sum n (λ x. inner r x (U (p x) * B x))
+  unfolding left
+  left-sum = sum-add n (λ x. U x * A x) (λ x. inner r x (U (p x) * B x))
+
+  right-sum : sum n right ≡ sum n (λ x. inner r x (U (p x) * A x)) + sum n (λ x. U x * B x) + flowCost n r p l m v
+  unfolding right flowCost A B
+  right-sum =
+      omega (
+        arith,
+        sum-add n (λ x. inner r x (U (p x) * A x) + U x * B x) (λ x. inner r x (l x * gap (A x) (B x))),
+        sum-add n (λ x. inner r x (U (p x) * A x)) (λ x. U x * B x),
+      )
+
+  m-parts : sum n (λ x. U x * A x) ≡ sum n (λ x. inner r x (U (p x) * A x)) + sum n (λ y. U y * m y)
+  unfolding A
+  m-parts = by-parts t U m
+
+  v-parts : sum n (λ x. U x * B x) ≡ sum n (λ x. inner r x (U (p x) * B x)) + sum n (λ y. U y * v y)
+  unfolding B
+  v-parts = by-parts t U v
+
+  -- weak duality: a potential within the lengths
+  pub tree-weak : ((x : ℕ) → x < n → (x ≡ r → ⊥) → (U x ≤ U (p x) + l x) × (U (p x) ≤ U x + l x))
+      → sum n (λ y. U y * m y) ≤ sum n (λ y. U y * v y) + flowCost n r p l m v
+  unfolding left right
+  tree-weak near = omega (arith, left-sum, right-sum, m-parts, v-parts, sum-le n left right at)
+    where
+      at : (x : ℕ) → x < n → left x ≤ right x
+      at x h =
+          case≡ x r
+          (λ e. rw e (omega (arith, root-sides)))
+          (λ d. rw (ne-eqb x r d) (product-le (U x) (U (p x)) (l x) (A x) (B x) (near x h d .0) (near x h d .1)))
+
+  -- strong duality: a potential that agrees with the flow
+  pub tree-strong : ((x : ℕ) → x < n → (x ≡ r → ⊥) → Agrees (U x) (U (p x)) (l x) (subtotal p n m x) (subtotal p n v x))
+      → sum n (λ y. U y * m y) ≡ sum n (λ y. U y * v y) + flowCost n r p l m v
+  unfolding left right A B
+  tree-strong agrees = omega (arith, left-sum, right-sum, m-parts, v-parts, sum-ext n left right at)
+    where
+      at : (x : ℕ) → x < n → left x ≡ right x
+      at x h =
+          case≡ x r
+          (λ e. rw e root-sides)
+          (λ d. rw (ne-eqb x r d) (product-eq (U x) (U (p x)) (l x) (A x) (B x) (agrees x h d)))
+
+-- ---- every tree has a potential that agrees with its flow
+
+module _ (n r : ℕ) (p l m v : ℕ → ℕ) where
+  -- an edge that the flow climbs raises the potential
+  rise : ℕ → ℕ
+  rise x = inner r x (pick (leb (subtotal p n v x) (subtotal p n m x)) (l x))
+
+  fall : ℕ → ℕ
+  fall x = inner r x (pick (not (leb (subtotal p n v x) (subtotal p n m x))) (l x))
+
+  -- at the root the sum of all lengths, so that nothing falls below 0
+  pub height : ℕ → ℕ
+  height y = sum n l + above p n rise y - above p n fall y
+
+  fall-le : (y : ℕ) → above p n fall y ≤ sum n l
+  unfolding fall
+  fall-le y =
+      sum-le n _ l (λ x k.
+      omega (
+        arith,
+        pick-le (below p n y x) (fall x),
+        pick-le (not (eqb x r)) (pick (not (leb (subtotal p n v x) (subtotal p n m x))) (l x)),
+        pick-le (not (leb (subtotal p n v x) (subtotal p n m x))) (l x),
+      ))
+
+module _ {n r : ℕ} {p : ℕ → ℕ} (t : Rooted n r p) (l m v : ℕ → ℕ) where
+  pub height-root : height n r p l m v r ≡ sum n l
+  unfolding height rise fall
+  height-root = rw (above-root t (rise n r p l m v), above-root t (fall n r p l m v), eqb-self r) (omega arith)
+
+  pub height-up : (x : ℕ) → x < n → (x ≡ r → ⊥) → subtotal p n v x ≤ subtotal p n m x
+      → height n r p l m v x ≡ height n r p l m v (p x) + l x
+  unfolding height rise fall
+  height-up x k d h =
+      let e : leb (subtotal p n v x) (subtotal p n m x) ≡ true = le-leb (subtotal p n v x) (subtotal p n m x) h in
+      let R : rise n r p l m v x ≡ l x = rw (ne-eqb x r d, e) in
+      let F : fall n r p l m v x ≡ 0 = rw (ne-eqb x r d, e) in
+      omega (
+        arith,
+        R,
+        F,
+        above-step t (rise n r p l m v) x k d,
+        above-step t (fall n r p l m v) x k d,
+        fall-le n r p l m v (p x),
+      )
+
+  pub height-down : (x : ℕ) → x < n → (x ≡ r → ⊥) → subtotal p n m x < subtotal p n v x
+      → height n r p l m v (p x) ≡ height n r p l m v x + l x
+  unfolding height rise fall
+  height-down x k d h =
+      let e : leb (subtotal p n v x) (subtotal p n m x) ≡ false = lt-leb (subtotal p n v x) (subtotal p n m x) h in
+      let R : rise n r p l m v x ≡ 0 = rw (ne-eqb x r d, e) in
+      let F : fall n r p l m v x ≡ l x = rw (ne-eqb x r d, e) in
+      omega (
+        arith,
+        R,
+        F,
+        above-step t (rise n r p l m v) x k d,
+        above-step t (fall n r p l m v) x k d,
+        fall-le n r p l m v x,
+      )
+
+  pub height-agrees : (x : ℕ) → x < n → (x ≡ r → ⊥)
+      → Agrees (height n r p l m v x) (height n r p l m v (p x)) (l x) (subtotal p n m x) (subtotal p n v x)
+  height-agrees x k d =
+      case≤ (subtotal p n v x) (subtotal p n m x)
+      (λ h. inl (h, height-up x k d h))
+      (λ h. inr (omega arith, height-down x k d h))
+
+-- ---- the cost depends on the edges alone
+
+-- x and y are joined by an edge of the tree, of length d
+abbrev pub TreeEdge : ℕ → (ℕ → ℕ) → (ℕ → ℕ) → (x y d : ℕ) → Type 0
+TreeEdge r p l x y d = ((p x ≡ y) × ((x ≡ r → ⊥) × (d ≡ l x))) ⊎ ((p y ≡ x) × ((y ≡ r → ⊥) × (d ≡ l y)))
+
+-- who agrees is within the length
+pub agrees-near : (u w d a b : ℕ) → Agrees u w d a b → (u ≤ w + d) × (w ≤ u + d)
+agrees-near u w d a b = ⊎-elim (λ h. (omega arith, omega arith)) (λ h. (omega arith, omega arith))
+
+module _ {n r s : ℕ} {p q : ℕ → ℕ} (t : Rooted n r p) (w : Rooted n s q) (l k m v : ℕ → ℕ) (same : sum n m ≡ sum n v) where
+  -- a tree with edges of p alone costs no less than p
+  edges-within : ((x : ℕ) → x < n → (x ≡ s → ⊥) → TreeEdge r p l x (q x) (k x)) → flowCost n r p l m v ≤ flowCost n s q k m v
+  edges-within edge =
+      omega (
+        arith,
+        tree-strong t U l m v same (height-agrees t l m v),
+        tree-weak w U k m v same (λ x h d. ⊎-elim
+            (λ e. rw (← (e .0), e .1 .1) (near x h (e .1 .0)))
+            (λ e.
+            let z : (U (q x) ≤ U x + k x) × (U x ≤ U (q x) + k x) = rw (e .1 .1) (rw (e .0) at (near (q x) (w .into x h) (e .1 .0))) in
+            (z .1, z .0))
+            (edge x h d)),
+      )
+    where
+      U : ℕ → ℕ
+      U = height n r p l m v
+      near : (x : ℕ) → x < n → (x ≡ r → ⊥) → (U x ≤ U (p x) + l x) × (U (p x) ≤ U x + l x)
+      near x h d = agrees-near _ _ _ _ _ (height-agrees t l m v x h d)
+
+module _ {n r s : ℕ} {p q : ℕ → ℕ} (t : Rooted n r p) (w : Rooted n s q) (l k m v : ℕ → ℕ) (same : sum n m ≡ sum n v) where
+  pub same-edges-same-cost : ((x : ℕ) → x < n → (x ≡ s → ⊥) → TreeEdge r p l x (q x) (k x))
+      → ((x : ℕ) → x < n → (x ≡ r → ⊥) → TreeEdge s q k x (p x) (l x)) → flowCost n r p l m v ≡ flowCost n s q k m v
+  same-edges-same-cost there back = omega (arith, edges-within t w l k m v same there, edges-within w t k l m v same back)

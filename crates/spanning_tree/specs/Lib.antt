@@ -1,0 +1,5 @@
+pub mod Checks
+pub mod Tree
+pub mod Weigh
+pub mod Plan
+pub mod Evaluate

@@ -1,0 +1,63 @@
+-- Words as sets: bit i of a word, and the word of a test.
+use mathlib.Core.Path.{_≡_, refl, sym, ap, _∙_}
+use mathlib.Core.Bool.{Bool, true, false, cond, _&&_}
+use Prim.Native.Nat.{ℕ, zero, suc, _+_, _-_, _*_, _/_, _%_, _≤_, _<_, _^_}
+use native.Mathlib.Nat.{add-zero, one-mul}
+use native.Mathlib.Numerals.{add-one}
+use native.Mathlib.Omega.{arith}
+use lib.Bits.{bitOr, bitAnd, or-shifted-r, and-mask}
+use lib.Dec.{eqb, lit<}
+use lib.Pow.{shl-exact, pow-add, high, low, field, mod-mod-pow}
+use Rattle.arithmetic.specs.Bools.{case≡}
+use Rattle.arithmetic.specs.Sum.{pick}
+
+-- bit i of w
+abbrev pub bit : ℕ → ℕ → Bool
+bit w i = eqb (w / 2 ^ i % 2) 1
+
+-- the word whose bits below m are p's
+unfoldable pub mask : ℕ → (ℕ → Bool) → ℕ
+mask zero p = 0
+mask (suc m) p = mask m p + pick (p m) (2 ^ m)
+
+pow-suc : (m : ℕ) → 2 ^ suc m ≡ 2 ^ m + 2 ^ m
+pow-suc m = ap (λ (k : ℕ). 2 ^ k) (sym (add-one m)) ∙ rw (pow-add 2 m 1) (omega arith)
+
+pub mask-lt : (m : ℕ) (p : ℕ → Bool) → mask m p < 2 ^ m
+unfolding mask
+mask-lt zero p = lit< tt
+mask-lt (suc m) p = go (p m) (mask-lt m p)
+  where
+    go : (t : Bool) → mask m p < 2 ^ m → mask m p + pick t (2 ^ m) < 2 ^ suc m
+    go true h = rw pow-suc (omega arith)
+    go false h = rw pow-suc (omega arith)
+
+pub mask-ext : (m : ℕ) (p q : ℕ → Bool) → ((i : ℕ) → i < m → p i ≡ q i) → mask m p ≡ mask m q
+unfolding mask
+mask-ext zero p q h = refl
+mask-ext (suc m) p q h = rw (mask-ext m p q (λ i l. h i (omega arith)), h m (omega arith))
+
+-- the bits below m of a number are those of its remainder by 2 ^ m
+bit-low : (N m i : ℕ) → i < m → N % 2 ^ m / 2 ^ i % 2 ≡ N / 2 ^ i % 2
+bit-low N m i h = go (m - suc i) (omega arith)
+  where
+    go : (j : ℕ) → m ≡ (j + 1) + i → N % 2 ^ m / 2 ^ i % 2 ≡ N / 2 ^ i % 2
+    go j e = rw (e, field N (j + 1) i) (mod-mod-pow (N / 2 ^ i) j 1)
+
+-- bit i of a word is what the test says of i
+pub bit-mask : (m : ℕ) (p : ℕ → Bool) (i : ℕ) → i < m → bit (mask m p) i ≡ p i
+unfolding mask
+bit-mask zero p i h = absurd (omega arith)
+bit-mask (suc m) p i h =
+    case≡ i m
+    (λ e. rw (split (p m), e) (top (p m)))
+    (λ ne. rw (split (p m)) (rest (p m) (omega arith) ∙ bit-mask m p i (omega arith)))
+  where
+    split : (t : Bool) → mask m p + pick t (2 ^ m) ≡ pick t 1 * 2 ^ m + mask m p
+    split true = omega arith
+    split false = omega arith
+    top : (t : Bool) → bit (pick t 1 * 2 ^ m + mask m p) m ≡ t
+    top true = ap (λ (x : ℕ). eqb (x % 2) 1) (high 1 m (mask-lt m p))
+    top false = ap (λ (x : ℕ). eqb (x % 2) 1) (high 0 m (mask-lt m p))
+    rest : (t : Bool) → i < m → bit (pick t 1 * 2 ^ m + mask m p) i ≡ bit (mask m p) i
+    rest t g = ap (λ (x : ℕ). eqb x 1) (sym (bit-low _ m i g) ∙ ap (λ (x : ℕ). x / 2 ^ i % 2) (low (pick t 1) m (mask-lt m p)))

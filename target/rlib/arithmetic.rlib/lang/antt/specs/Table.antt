@@ -1,0 +1,127 @@
+-- Lent tables: a list as a function, a function as a list, and what a call leaves in a table.
+use mathlib.Core.Path.{_≡_, refl, sym, ap, _∙_}
+use mathlib.Core.List.{List, [], _∷_, _++_, append-assoc}
+use Prim.Native.Nat.{ℕ, zero, suc, _+_, _-_, _*_, _≤_, _<_}
+use native.Mathlib.Nat.{mul-le-mul-right, suc-mul}
+use native.Mathlib.Numerals.{add-one}
+use native.Mathlib.Omega.{arith}
+use lib.ListN.{length, getD, drop, set, length-append, length-drop, length-set, List·getD-append}
+use lib.Seq.{drop-cons, set-at, drop-at, getD-at, getD-append-add, getD-drop, ext-getD, getD-set-same, getD-set-other}
+use Rattle.arithmetic.specs.Bools.{case≡, case<}
+
+-- the number at place i
+abbrev pub at : List ℕ → ℕ → ℕ
+at l i = getD l i 0
+
+-- the list f 0, f 1, .., f (m - 1)
+unfoldable pub tab : {A : Type 0} → ℕ → (ℕ → A) → List A
+tab zero f = []
+tab (suc m) f = tab m f ++ (f m ∷ [])
+
+-- k rows of n numbers, row i from place i × n
+unfoldable pub rows : {A : Type 0} → ℕ → ℕ → (ℕ → ℕ → A) → List A
+rows n zero f = []
+rows n (suc k) f = rows n k f ++ tab n (f k)
+
+-- the n × n table of f
+abbrev pub matrix : {A : Type 0} → ℕ → (ℕ → ℕ → A) → List A
+matrix n f = rows n n f
+
+-- row i, column j of a table of rows of n
+abbrev pub cell : ℕ → List ℕ → ℕ → ℕ → ℕ
+cell n l i j = at l (i * n + j)
+
+-- "all other results 0": a result of a call with the given refusal number
+abbrev pub result : ℕ → ℕ → ℕ
+result zero v = v
+result (suc k) v = 0
+
+-- a lent table after a call: the answer in its first places and the rest as lent, or, after a refusal, as it came
+abbrev pub written : {A : Type 0} → ℕ → List A → List A → List A
+written zero answer lent = answer ++ drop (length answer) lent
+written (suc k) answer lent = lent
+
+-- ---- laws
+
+pub length-tab : {A : Type 0} (m : ℕ) (f : ℕ → A) → length (tab m f) ≡ m
+unfolding tab
+length-tab zero f = refl
+length-tab (suc m) f = rw (length-append, length-tab m f, add-one)
+
+pub tab-none : {A : Type 0} (f : ℕ → A) (d : List A) → d ≡ tab 0 f ++ drop 0 d
+unfolding tab
+tab-none f d = refl
+
+pub tab-more : {A : Type 0} (i : ℕ) (f : ℕ → A) (d : List A) → i < length d
+    → set (tab i f ++ drop i d) i (f i) ≡ tab (i + 1) f ++ drop (i + 1) d
+unfolding tab
+tab-more i f d h = rw (add-one, drop-cons d i (f i) h, set-at (tab i f) _ _ (f i) i (length-tab i f), append-assoc)
+
+-- one store of a loop that fills a table from the front
+pub tab-store : {A : Type 0} (i : ℕ) (f : ℕ → A) (d out : List A) (x : A) → i < length d → out ≡ tab i f ++ drop i d → x ≡ f i
+    → set out i x ≡ tab (i + 1) f ++ drop (i + 1) d
+tab-store i f d out x h e g = rw (e, g) (tab-more i f d h)
+
+-- what a table that was filled from the front reads
+pub tab-at : {A : Type 0} (m : ℕ) (f : ℕ → A) (d : A) (i : ℕ) → i < m → getD (tab m f) i d ≡ f i
+unfolding tab
+tab-at zero f d i l = absurd (omega arith)
+tab-at (suc m) f d i l =
+    case≡ i m
+    (λ e. rw e (getD-at (tab m f) (f m) [] d m (length-tab m f)))
+    (λ ne. List·getD-append (tab m f) (f m ∷ []) d i (rw (length-tab m f) (omega arith)) ∙ tab-at m f d i (omega arith))
+
+pub tab-ext : {A : Type 0} (m : ℕ) (f g : ℕ → A) → ((i : ℕ) → i < m → f i ≡ g i) → tab m f ≡ tab m g
+unfolding tab
+tab-ext zero f g h = refl
+tab-ext (suc m) f g h = rw (tab-ext m f g (λ i l. h i (omega arith)), h m (omega arith))
+
+-- a list that reads as f, and then as another list, is f's table and that list's rest
+pub tab-front : {A : Type 0} (m : ℕ) (f : ℕ → A) (d : A) (l lent : List A) → m ≤ length lent → length l ≡ length lent
+    → ((i : ℕ) → i < m → getD l i d ≡ f i) → ((i : ℕ) → i < length lent → m ≤ i → getD l i d ≡ getD lent i d)
+    → l ≡ tab m f ++ drop m lent
+tab-front m f d l lent long same front rest =
+    ext-getD d l (tab m f ++ drop m lent)
+    (rw (length-append, length-tab m f, length-drop) (omega arith))
+    (λ i h. case< i m
+    (λ k. front i k ∙ sym (List·getD-append (tab m f) (drop m lent) d i (rw (length-tab m f) k) ∙ tab-at m f d i k))
+    (λ k. rest i (omega arith) k ∙ sym (behind i k)))
+  where
+    behind : (i : ℕ) → m ≤ i → getD (tab m f ++ drop m lent) i d ≡ getD lent i d
+    behind i k =
+        let e : i ≡ length (tab m f) + (i - m) = omega (arith, length-tab m f) in
+        let g : m + (i - m) ≡ i = omega arith in
+        ap (λ (x : ℕ). getD (tab m f ++ drop m lent) x d) e ∙ getD-append-add (tab m f) (drop m lent) (i - m) d
+        ∙ getD-drop m lent (i - m) d ∙ ap (λ (x : ℕ). getD lent x d) g
+
+-- ---- rows
+
+-- a row ends before a later one begins
+pub row-below : (n i x : ℕ) → i < x → i * n + n ≤ x * n
+row-below n i x h = omega (arith, mul-le-mul-right n h)
+
+pub cell-below : (n i j : ℕ) → i < n → j < n → i * n + j < n * n
+cell-below n i j h k = omega (arith, row-below n i n h)
+
+pub length-rows : {A : Type 0} (n k : ℕ) (f : ℕ → ℕ → A) → length (rows n k f) ≡ k * n
+unfolding rows
+length-rows n zero f = omega arith
+length-rows n (suc k) f = rw (length-append, length-rows n k f, length-tab n (f k)) (omega arith)
+
+pub rows-at : {A : Type 0} (n k : ℕ) (f : ℕ → ℕ → A) (d : A) (i j : ℕ) → i < k → j < n → getD (rows n k f) (i * n + j) d ≡ f i j
+unfolding rows
+rows-at n zero f d i j h l = absurd (omega arith)
+rows-at n (suc k) f d i j h l =
+    case≡ i k
+    (λ e. rw e (ap (λ (x : ℕ). getD (rows n k f ++ tab n (f k)) (x + j) d) (sym (length-rows n k f))
+    ∙ getD-append-add (rows n k f) (tab n (f k)) j d ∙ tab-at n (f k) d j l))
+    (λ ne.
+    let g : i < k = omega arith in
+    List·getD-append (rows n k f) (tab n (f k)) d (i * n + j) (rw (length-rows n k f) (omega (arith, row-below n i k g)))
+    ∙ rows-at n k f d i j g l)
+
+pub rows-ext : {A : Type 0} (n k : ℕ) (f g : ℕ → ℕ → A) → ((i j : ℕ) → i < k → j < n → f i j ≡ g i j) → rows n k f ≡ rows n k g
+unfolding rows
+rows-ext n zero f g h = refl
+rows-ext n (suc k) f g h =
+    rw (rows-ext n k f g (λ i j l. h i j (omega arith)), tab-ext n (f k) (g k) (λ j l. h k j (omega arith) l))

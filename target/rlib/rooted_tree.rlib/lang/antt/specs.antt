@@ -1,0 +1,4 @@
+pub mod Chain
+pub mod Rooted
+pub mod Subtotal
+pub mod Flow

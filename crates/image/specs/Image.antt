@@ -1,0 +1,77 @@
+-- Document 01, "Image": its layout and checks 11 to 13. s is the image's bytes.
+use Prim.Native.Nat.{ℕ, _+_, _*_, _-_}
+use mathlib.Core.Bool.{Bool, not, _&&_, _||_}
+use mathlib.Core.List.{List}
+use lib.ListN.{length}
+use lib.Dec.{eqb, leb}
+use Rattle.arithmetic.specs.Bools.{all}
+use Rattle.arithmetic.specs.Table.{at}
+
+-- "numbers in bytes are little-endian": two bytes and four bytes from place k
+abbrev pub two : List ℕ → ℕ → ℕ
+two s k = at s k + 256 * at s (k + 1)
+
+abbrev pub four : List ℕ → ℕ → ℕ
+four s k = at s k + 256 * at s (k + 1) + 65536 * at s (k + 2) + 16777216 * at s (k + 3)
+
+-- "byte 0 is n, byte 1 is 0, bytes 2–3 are m"
+abbrev pub vertexCount : List ℕ → ℕ
+vertexCount s = at s 0
+
+abbrev pub edgeCount : List ℕ → ℕ
+edgeCount s = two s 2
+
+-- "Four pairs of 32-bit offset and length": section t is the edges (0), mu (1), nu (2) or the tree (3)
+abbrev pub offset : List ℕ → ℕ → ℕ
+offset s t = four s (4 + 8 * t)
+
+abbrev pub extent : List ℕ → ℕ → ℕ
+extent s t = four s (8 + 8 * t)
+
+-- 11: "image under 36 or over 65,536 bytes"
+unfoldable pub sizeOk : List ℕ → Bool
+sizeOk s = leb 36 (length s) && leb (length s) 65536
+
+-- 12: "a section starts before 36 or before its forerunner's end, or ends past the image"
+unfoldable pub sectionOk : List ℕ → ℕ → Bool
+sectionOk s t =
+    leb 36 (offset s t) && ((eqb t 0 || leb (offset s (t - 1) + extent s (t - 1)) (offset s t))
+    && leb (offset s t + extent s t) (length s))
+
+abbrev pub sectionsOk : List ℕ → Bool
+sectionsOk s = all 4 (sectionOk s)
+
+-- "tree (empty, or root and n parents, one byte each)"
+abbrev pub hasTree : List ℕ → Bool
+hasTree s = not (eqb (extent s 3) 0)
+
+-- 13: "byte 1 isn't 0, or a section length doesn't fit": "m entries: a, b one byte each, length two", "n amounts, four bytes each"
+unfoldable pub layoutOk : List ℕ → Bool
+layoutOk s =
+    eqb (at s 1) 0 && (eqb (extent s 0) (4 * edgeCount s)
+    && (eqb (extent s 1) (4 * vertexCount s) && (eqb (extent s 2) (4 * vertexCount s)
+    && (eqb (extent s 3) 0 || eqb (extent s 3) (vertexCount s + 1)))))
+
+-- what the sections hold: the ends and the length of edge e,
+abbrev pub lowerEnd : List ℕ → ℕ → ℕ
+lowerEnd s e = at s (offset s 0 + 4 * e)
+
+abbrev pub upperEnd : List ℕ → ℕ → ℕ
+upperEnd s e = at s (offset s 0 + 4 * e + 1)
+
+abbrev pub edgeLengthOf : List ℕ → ℕ → ℕ
+edgeLengthOf s e = two s (offset s 0 + 4 * e + 2)
+
+-- the amounts of vertex x before and after,
+abbrev pub amountBefore : List ℕ → ℕ → ℕ
+amountBefore s x = four s (offset s 1 + 4 * x)
+
+abbrev pub amountAfter : List ℕ → ℕ → ℕ
+amountAfter s x = four s (offset s 2 + 4 * x)
+
+-- the root and the parent of vertex x
+abbrev pub rootOf : List ℕ → ℕ
+rootOf s = at s (offset s 3)
+
+abbrev pub parentOf : List ℕ → ℕ → ℕ
+parentOf s x = at s (offset s 3 + 1 + x)

@@ -1,0 +1,62 @@
+-- The exported entry: its refusal number, and its whole outcome. s is the image's bytes.
+use Prim.Native.Nat.{ℕ, _*_}
+use mathlib.Core.Path.{_≡_}
+use mathlib.Core.Bool.{Bool, true, false, cond, _&&_}
+use mathlib.Core.List.{List}
+use lib.ListN.{length}
+use lib.Dec.{leb}
+use lib.IntN.{ℤ, pos}
+use Rattle.arithmetic.specs.Table.{at, tab, matrix, written}
+use Rattle.graph.specs.Graph.{Graph, graph}
+use Rattle.graph.specs.Checks.{graphRefusal}
+use Rattle.spanning_tree.specs.Checks.{measureRefusal, treeRefusal}
+use Rattle.spanning_tree.specs.Weigh.{potential, treeCost}
+use Rattle.spanning_tree.specs.Plan.{plan, moves}
+use Rattle.optimal_transport.specs.Best.{Best}
+use Rattle.image.specs.Image.{hasTree, vertexCount, edgeCount, lowerEnd, upperEnd, edgeLengthOf, amountBefore, amountAfter, rootOf, parentOf}
+use Rattle.image.specs.Read.{imageRefusal}
+use Rattle.weight_mover.specs.Record.{record-bytes, recordSize}
+
+-- the graph of an image
+abbrev pub graphOf : List ℕ → Graph
+graphOf s =
+    graph (vertexCount s) (tab (edgeCount s) (lowerEnd s)) (tab (edgeCount s) (upperEnd s)) (tab (edgeCount s) (edgeLengthOf s))
+
+-- "An image with a tree is weighed, one without gets the best answer": the checks of the one or the other; "a shorter buffer is refused 2"
+unfoldable pub runRefusal : List ℕ → List ℕ → ℕ
+runRefusal s buffer =
+    imageRefusal s (graphRefusal (graphOf s) (leb (recordSize (vertexCount s)) (length buffer))
+    (measureRefusal (vertexCount s) (amountBefore s) (amountAfter s)
+    (cond (hasTree s) (treeRefusal (graphOf s) (rootOf s) (parentOf s)) 0)))
+
+-- entry c of a plan's table
+abbrev pub entryOf : ℕ → (ℕ → ℕ → ℕ) → ℕ → ℕ
+entryOf n t c = at (matrix n t) c
+
+-- the record of a plan by the rule, from a tree with its root and parents
+abbrev pub planRecord : List ℕ → ℕ → ℕ → (ℕ → ℕ) → (ℕ → ℤ) → List ℕ
+planRecord s cost root parent u =
+    record-bytes (vertexCount s) cost (moves (vertexCount s) (plan (vertexCount s) root parent (amountBefore s) (amountAfter s)))
+    root parent u (entryOf (vertexCount s) (plan (vertexCount s) root parent (amountBefore s) (amountAfter s)))
+
+-- the record of an image with a tree
+unfoldable pub weighedRecord : List ℕ → List ℕ
+weighedRecord s =
+    planRecord s (treeCost (graphOf s) (rootOf s) (parentOf s) (amountBefore s) (amountAfter s)) (rootOf s) (parentOf s)
+    (potential (graphOf s) (rootOf s) (parentOf s) (amountBefore s) (amountAfter s))
+
+-- a record of the best answer to an image without a tree: it carries demand 3
+pub record BestRecord (s : List ℕ) (bytes : List ℕ) : Type 0 where
+  pub cost : ℕ
+  pub parents : ℕ → ℕ
+  pub u : ℕ → ℤ
+  pub best : Best (graphOf s) (amountBefore s) (amountAfter s) parents
+      (plan (vertexCount s) 0 parents (amountBefore s) (amountAfter s)) u cost
+  pub bytes-are : bytes ≡ planRecord s cost 0 parents u
+
+-- the whole outcome: the refusal number k, and the buffer as it comes back
+pub record Ran (s buffer : List ℕ) (k : ℕ) (buffer' : List ℕ) : Type 0 where
+  pub refusal : k ≡ runRefusal s buffer
+  pub refused : (k ≡ 0 → ⊥) → buffer' ≡ buffer
+  pub weighed : k ≡ 0 → hasTree s ≡ true → buffer' ≡ written 0 (weighedRecord s) buffer
+  pub solved : k ≡ 0 → hasTree s ≡ false → (bytes : List ℕ) × (BestRecord s bytes × (buffer' ≡ written 0 bytes buffer))

@@ -6,12 +6,12 @@ use Prim.Native.Nat.{ℕ, _+_, _*_, _-_, _≤_, _<_}
 use native.Mathlib.Nat.{mul-le-mul-right}
 use native.Mathlib.Omega.{arith}
 use lib.Dec.{eqb, leb}
-use borrow.Author.Tests.{ne-eqb, le-leb, lt-leb}
+use borrow.Author.Tests.{ne-eqb, le-leb, lt-leb, leb-true, leb-false, not-true}
 use Rattle.arithmetic.specs.Bools.{case≡, case≤, eqb-self}
-use Rattle.arithmetic.specs.Sum.{pick, pick-le, sum, sum-ext, sum-le, sum-lt, sum-add}
+use Rattle.arithmetic.specs.Sum.{pick, pick-zero, pick-le, sum, sum-ext, sum-le, sum-lt, sum-add}
 use Rattle.arithmetic.specs.Product.{gap, gap-comm, Agrees, product-le, product-eq}
 use Rattle.rooted_tree.specs.Chain.{below}
-use Rattle.rooted_tree.specs.Rooted.{Rooted, above, above-root, above-step}
+use Rattle.rooted_tree.specs.Rooted.{Rooted, tree-ind, above, above-root, above-step}
 use Rattle.rooted_tree.specs.Subtotal.{subtotal, inner, subtotal-root, by-parts}
 
 -- what it costs to move m to v along the edges of the tree, of length l x above x
@@ -173,6 +173,42 @@ module _ {n r : ℕ} {p : ℕ → ℕ} (t : Rooted n r p) (l m v : ℕ → ℕ) 
       (λ h. inl (h, height-up x k d h))
       (λ h. inr (omega arith, height-down x k d h))
 
+  -- where no subtree is balanced it is the only one, up to its value at the root
+  pub height-unique : (U : ℕ → ℕ) → ((x : ℕ) → x < n → (x ≡ r → ⊥) → subtotal p n m x ≡ subtotal p n v x → ⊥)
+      → ((x : ℕ) → x < n → (x ≡ r → ⊥) → Agrees (U x) (U (p x)) (l x) (subtotal p n m x) (subtotal p n v x))
+      → (y : ℕ) → y < n → U y + sum n l ≡ U r + height n r p l m v y
+  height-unique U nonzero agrees =
+      tree-ind t (λ y. U y + sum n l ≡ U r + height n r p l m v y)
+      (omega (arith, height-root))
+      (λ y k d h. ⊎-elim
+      (λ e. omega (arith, height-up y k d (e .0)))
+      (λ e. let ne = nonzero y k d in omega (arith, height-down y k d (omega arith)))
+      (agrees y k d))
+
+  -- y is no higher than z where each edge that rises to y rises to z, and each that falls to z falls to y
+  pub height-mono : (y z : ℕ)
+      → ((x : ℕ) → x < n → (x ≡ r → ⊥) → below p n y x ≡ true → subtotal p n v x ≤ subtotal p n m x → below p n z x ≡ true)
+      → ((x : ℕ) → x < n → (x ≡ r → ⊥) → below p n z x ≡ true → subtotal p n m x < subtotal p n v x → below p n y x ≡ true)
+      → height n r p l m v y ≤ height n r p l m v z
+  unfolding height rise fall
+  height-mono y z up down =
+      omega (
+        arith,
+        sum-le n (λ x. pick (below p n y x) (rise n r p l m v x)) (λ x. pick (below p n z x) (rise n r p l m v x)) (λ x k.
+            either x (below p n y x) (below p n z x) (leb (subtotal p n v x) (subtotal p n m x))
+            (λ d e h. up x k d e (leb-true (subtotal p n v x) (subtotal p n m x) h))),
+        sum-le n (λ x. pick (below p n z x) (fall n r p l m v x)) (λ x. pick (below p n y x) (fall n r p l m v x)) (λ x k.
+            either x (below p n z x) (below p n y x) (not (leb (subtotal p n v x) (subtotal p n m x)))
+            (λ d e h. down x k d e (leb-false (subtotal p n v x) (subtotal p n m x) (not-true (leb (subtotal p n v x) (subtotal p n m x)) h)))),
+      )
+    where
+      either : (x : ℕ) (b c h : Bool) → ((x ≡ r → ⊥) → b ≡ true → h ≡ true → c ≡ true)
+          → pick b (inner r x (pick h (l x))) ≤ pick c (inner r x (pick h (l x)))
+      either x false c h f = omega arith
+      either x true c false f = rw (pick-zero (not (eqb x r))) (omega arith)
+      either x true c true f =
+          case≡ x r (λ e. rw (e, eqb-self r) (omega arith)) (λ d. rw (f d refl refl) (omega arith))
+
 -- ---- the cost depends on the edges alone
 
 -- x and y are joined by an edge of the tree, of length d
@@ -200,6 +236,7 @@ module _ {n r s : ℕ} {p q : ℕ → ℕ} (t : Rooted n r p) (w : Rooted n s q)
     where
       U : ℕ → ℕ
       U = height n r p l m v
+
       near : (x : ℕ) → x < n → (x ≡ r → ⊥) → (U x ≤ U (p x) + l x) × (U (p x) ≤ U x + l x)
       near x h d = agrees-near _ _ _ _ _ (height-agrees t l m v x h d)
 

@@ -89,6 +89,10 @@ module _ {n r : ℕ} {p : ℕ → ℕ} (t : Rooted n r p) where
       (λ h k. rw (root-b x h) k)
       (λ y l d ih h k. case≡ y x (λ e. rw e k) (λ ne. up-b y z l (ih (down-b y x l h ne) k)))
 
+  -- what is not below z is below nothing that is
+  pub out-b : (x z y : ℕ) → y < n → below p n x z ≡ true → below p n y z ≡ false → below p n y x ≡ false
+  out-b x z y l h e = is-false _ (λ k. clash (trans-b x z y l k h) e)
+
   -- every vertex is below the root
   pub all-b : (y : ℕ) → y < n → below p n y r ≡ true
   all-b = tree-ind (λ y. below p n y r ≡ true) (refl-b r (t .root)) (λ y l d h. up-b y r l h)
@@ -102,7 +106,7 @@ module _ {n r : ℕ} {p : ℕ → ℕ} (t : Rooted n r p) where
       case≡ y x (λ e. clash (rw (← e) k) f) (λ ne.
       case≡ y z (λ e. rw (← e) h) (λ nf. ih (down-b y x l h ne) (down-b y z l k nf) f)))
 
-  -- below x is what meets x on its way up, by any number of steps
+  -- below x is what meets x going up through parents, by any number of steps
   pub below-met : (y x : ℕ) → below p n y x ≡ true → (k : ℕ) × (climb p k y ≡ x)
   below-met y x h = below-climb p n y x h
 

@@ -1,7 +1,7 @@
 -- The mass of a subtree, and summation by parts on a tree.
-use mathlib.Core.Path.{_≡_, refl, sym, ap, _∙_}
+use mathlib.Core.Path.{_≡_, sym, ap, _∙_}
 use mathlib.Core.Bool.{Bool, true, false, not}
-use Prim.Native.Nat.{ℕ, _+_, _*_, _≤_, _<_}
+use Prim.Native.Nat.{ℕ, _+_, _*_, _<_}
 use native.Mathlib.Nat.{mul-comm, mul-zero, mul-add}
 use native.Mathlib.Omega.{arith}
 use lib.Dec.{eqb}

@@ -1,0 +1,325 @@
+-- Cases A to H of document 01, and each example of its table of refusals: one table, inputs beside figures.
+use mathlib.Core.List.{List, [], _∷_}
+use lib.IntN.{pos, negsuc}
+use Rattle.graph.specs.Graph.{graph}
+use Rattle.spanning_tree.specs.Evaluate.{given}
+use Rattle.worked_cases.specs.Figures.{Case, Bytes, silent, said}
+
+-- A: a line; the plan is that of the listing
+abbrev a : Case
+a = record {
+  patch = graph 4 (0 ∷ 1 ∷ 2 ∷ []) (1 ∷ 2 ∷ 3 ∷ []) (2 ∷ 3 ∷ 1 ∷ []);
+  lent = given (5 ∷ 0 ∷ 1 ∷ 0 ∷ []) (0 ∷ 2 ∷ 1 ∷ 3 ∷ []) 3 (1 ∷ 2 ∷ 3 ∷ 3 ∷ []);
+  refusal = 0;
+  imbalances = said (pos 5 ∷ pos 3 ∷ pos 3 ∷ pos 0 ∷ []);
+  potentials = said (pos 6 ∷ pos 4 ∷ pos 1 ∷ pos 0 ∷ []);
+  cost = said 22;
+  moved = said 2;
+  entries = said (0 ∷ 2 ∷ 0 ∷ 3 ∷ 0 ∷ 0 ∷ 0 ∷ 0 ∷ 0 ∷ 0 ∷ 1 ∷ 0 ∷ 0 ∷ 0 ∷ 0 ∷ 0 ∷ []);
+  best = silent;
+  judged = silent;
+}
+
+-- B: a ring; the tree given is not the best
+abbrev b : Case
+b = record {
+  patch = graph 4 (0 ∷ 0 ∷ 1 ∷ 2 ∷ []) (1 ∷ 3 ∷ 2 ∷ 3 ∷ []) (1 ∷ 1 ∷ 1 ∷ 1 ∷ []);
+  lent = given (4 ∷ 0 ∷ 0 ∷ 0 ∷ []) (0 ∷ 0 ∷ 0 ∷ 4 ∷ []) 0 (0 ∷ 0 ∷ 1 ∷ 2 ∷ []);
+  refusal = 0;
+  imbalances = silent;
+  potentials = silent;
+  cost = said 12;
+  moved = silent;
+  entries = silent;
+  best = said (record { parents = (0 ∷ 0 ∷ 1 ∷ 0 ∷ []); potentials = (pos 0 ∷ pos 0 ∷ pos 0 ∷ negsuc 0 ∷ []); cost = 4 });
+  judged = said 0;
+}
+
+-- C: B's ring and tree, with equal paintings: the tree's own potential jumps by 3 over an edge of length 1, and the tree is best
+abbrev c : Case
+c = record {
+  patch = graph 4 (0 ∷ 0 ∷ 1 ∷ 2 ∷ []) (1 ∷ 3 ∷ 2 ∷ 3 ∷ []) (1 ∷ 1 ∷ 1 ∷ 1 ∷ []);
+  lent = given (1 ∷ 1 ∷ 1 ∷ 1 ∷ []) (1 ∷ 1 ∷ 1 ∷ 1 ∷ []) 0 (0 ∷ 0 ∷ 1 ∷ 2 ∷ []);
+  refusal = 0;
+  imbalances = silent;
+  potentials = said (pos 0 ∷ pos 1 ∷ pos 2 ∷ pos 3 ∷ []);
+  cost = said 0;
+  moved = silent;
+  entries = silent;
+  best = said (record { parents = (0 ∷ 0 ∷ 1 ∷ 2 ∷ []); potentials = (pos 0 ∷ pos 0 ∷ pos 0 ∷ pos 0 ∷ []); cost = 0 });
+  judged = said 1;
+}
+
+-- D: an edge that is longer than the way round
+abbrev d : Case
+d = record {
+  patch = graph 3 (0 ∷ 0 ∷ 1 ∷ []) (1 ∷ 2 ∷ 2 ∷ []) (5 ∷ 1 ∷ 1 ∷ []);
+  lent = given (3 ∷ 0 ∷ 0 ∷ []) (0 ∷ 3 ∷ 0 ∷ []) 0 (0 ∷ 2 ∷ 0 ∷ []);
+  refusal = 0;
+  imbalances = silent;
+  potentials = silent;
+  cost = silent;
+  moved = silent;
+  entries = silent;
+  best = said (record { parents = (0 ∷ 2 ∷ 0 ∷ []); potentials = (pos 0 ∷ negsuc 1 ∷ negsuc 0 ∷ []); cost = 6 });
+  judged = silent;
+}
+
+-- E: one vertex
+abbrev e : Case
+e = record {
+  patch = graph 1 [] [] [];
+  lent = given (7 ∷ []) (7 ∷ []) 0 (0 ∷ []);
+  refusal = 0;
+  imbalances = silent;
+  potentials = silent;
+  cost = said 0;
+  moved = silent;
+  entries = said (7 ∷ []);
+  best = silent;
+  judged = silent;
+}
+
+-- F: the longest edge and the largest total
+abbrev f : Case
+f = record {
+  patch = graph 2 (0 ∷ []) (1 ∷ []) (65535 ∷ []);
+  lent = given (16777216 ∷ 0 ∷ []) (0 ∷ 16777216 ∷ []) 0 (0 ∷ 0 ∷ []);
+  refusal = 0;
+  imbalances = silent;
+  potentials = silent;
+  cost = said 1099494850560;
+  moved = silent;
+  entries = silent;
+  best = said (record { parents = (0 ∷ 0 ∷ []); potentials = (pos 0 ∷ negsuc 65534 ∷ []); cost = 1099494850560 });
+  judged = silent;
+}
+
+-- F: one grain more
+abbrev f′ : Case
+f′ = record {
+  patch = graph 2 (0 ∷ []) (1 ∷ []) (65535 ∷ []);
+  lent = given (16777217 ∷ 0 ∷ []) (0 ∷ 16777217 ∷ []) 0 (0 ∷ 0 ∷ []);
+  refusal = 6;
+  imbalances = silent;
+  potentials = silent;
+  cost = silent;
+  moved = silent;
+  entries = silent;
+  best = silent;
+  judged = silent;
+}
+
+-- G: document 000, Table 1, in units of 0.05
+abbrev g : Case
+g = record {
+  patch = graph 6 (0 ∷ 1 ∷ 2 ∷ 3 ∷ 4 ∷ []) (1 ∷ 2 ∷ 3 ∷ 4 ∷ 5 ∷ []) (1 ∷ 1 ∷ 1 ∷ 1 ∷ 1 ∷ []);
+  lent = given (1 ∷ 1 ∷ 0 ∷ 0 ∷ 0 ∷ 6 ∷ []) (0 ∷ 0 ∷ 4 ∷ 2 ∷ 2 ∷ 0 ∷ []) 5 (1 ∷ 2 ∷ 3 ∷ 4 ∷ 5 ∷ 5 ∷ []);
+  refusal = 0;
+  imbalances = said (pos 1 ∷ pos 2 ∷ negsuc 1 ∷ negsuc 3 ∷ negsuc 5 ∷ pos 0 ∷ []);
+  potentials = said (negsuc 0 ∷ negsuc 1 ∷ negsuc 2 ∷ negsuc 1 ∷ negsuc 0 ∷ pos 0 ∷ []);
+  cost = said 15;
+  moved = said 5;
+  entries = silent;
+  best = silent;
+  judged = silent;
+}
+
+-- H: G's paintings under root 0
+abbrev h : Case
+h = record {
+  patch = graph 6 (0 ∷ 1 ∷ 2 ∷ 3 ∷ 4 ∷ []) (1 ∷ 2 ∷ 3 ∷ 4 ∷ 5 ∷ []) (1 ∷ 1 ∷ 1 ∷ 1 ∷ 1 ∷ []);
+  lent = given (1 ∷ 1 ∷ 0 ∷ 0 ∷ 0 ∷ 6 ∷ []) (0 ∷ 0 ∷ 4 ∷ 2 ∷ 2 ∷ 0 ∷ []) 0 (0 ∷ 0 ∷ 1 ∷ 2 ∷ 3 ∷ 4 ∷ []);
+  refusal = 0;
+  imbalances = said (pos 0 ∷ negsuc 0 ∷ negsuc 1 ∷ pos 2 ∷ pos 4 ∷ pos 6 ∷ []);
+  potentials = silent;
+  cost = said 15;
+  moved = silent;
+  entries = silent;
+  best = silent;
+  judged = silent;
+}
+
+-- 1: n = 0
+abbrev n-0 : Case
+n-0 = record {
+  patch = graph 0 [] [] [];
+  lent = given [] [] 0 [];
+  refusal = 1;
+  imbalances = silent;
+  potentials = silent;
+  cost = silent;
+  moved = silent;
+  entries = silent;
+  best = silent;
+  judged = silent;
+}
+
+-- 2: n = 2, mu of 3 numbers
+abbrev mu-3 : Case
+mu-3 = record {
+  patch = graph 2 (0 ∷ []) (1 ∷ []) (1 ∷ []);
+  lent = given (1 ∷ 1 ∷ 1 ∷ []) (1 ∷ 1 ∷ []) 0 (0 ∷ 0 ∷ []);
+  refusal = 2;
+  imbalances = silent;
+  potentials = silent;
+  cost = silent;
+  moved = silent;
+  entries = silent;
+  best = silent;
+  judged = silent;
+}
+
+-- 3: n = 2, edge (1, 0)
+abbrev edge-10 : Case
+edge-10 = record {
+  patch = graph 2 (1 ∷ []) (0 ∷ []) (1 ∷ []);
+  lent = given (1 ∷ 0 ∷ []) (0 ∷ 1 ∷ []) 0 (0 ∷ 0 ∷ []);
+  refusal = 3;
+  imbalances = silent;
+  potentials = silent;
+  cost = silent;
+  moved = silent;
+  entries = silent;
+  best = silent;
+  judged = silent;
+}
+
+-- 4: n = 2, (0, 1) length 0
+abbrev length-0 : Case
+length-0 = record {
+  patch = graph 2 (0 ∷ []) (1 ∷ []) (0 ∷ []);
+  lent = given (1 ∷ 0 ∷ []) (0 ∷ 1 ∷ []) 0 (0 ∷ 0 ∷ []);
+  refusal = 4;
+  imbalances = silent;
+  potentials = silent;
+  cost = silent;
+  moved = silent;
+  entries = silent;
+  best = silent;
+  judged = silent;
+}
+
+-- 5: n = 3, only (0, 1)
+abbrev lonely : Case
+lonely = record {
+  patch = graph 3 (0 ∷ []) (1 ∷ []) (1 ∷ []);
+  lent = given (1 ∷ 0 ∷ 0 ∷ []) (0 ∷ 1 ∷ 0 ∷ []) 0 (0 ∷ 0 ∷ 0 ∷ []);
+  refusal = 5;
+  imbalances = silent;
+  potentials = silent;
+  cost = silent;
+  moved = silent;
+  entries = silent;
+  best = silent;
+  judged = silent;
+}
+
+-- 6: n = 1, 16,777,217 twice
+abbrev heavy : Case
+heavy = record {
+  patch = graph 1 [] [] [];
+  lent = given (16777217 ∷ []) (16777217 ∷ []) 0 (0 ∷ []);
+  refusal = 6;
+  imbalances = silent;
+  potentials = silent;
+  cost = silent;
+  moved = silent;
+  entries = silent;
+  best = silent;
+  judged = silent;
+}
+
+-- 7: n = 1, 3 and 4
+abbrev unequal : Case
+unequal = record {
+  patch = graph 1 [] [] [];
+  lent = given (3 ∷ []) (4 ∷ []) 0 (0 ∷ []);
+  refusal = 7;
+  imbalances = silent;
+  potentials = silent;
+  cost = silent;
+  moved = silent;
+  entries = silent;
+  best = silent;
+  judged = silent;
+}
+
+-- 8: n = 2, root 0, parents 1 0
+abbrev other-root : Case
+other-root = record {
+  patch = graph 2 (0 ∷ []) (1 ∷ []) (1 ∷ []);
+  lent = given (1 ∷ 0 ∷ []) (0 ∷ 1 ∷ []) 0 (1 ∷ 0 ∷ []);
+  refusal = 8;
+  imbalances = silent;
+  potentials = silent;
+  cost = silent;
+  moved = silent;
+  entries = silent;
+  best = silent;
+  judged = silent;
+}
+
+-- 9: (0, 1), (1, 2); root 0, parents 0 0 0
+abbrev no-edge : Case
+no-edge = record {
+  patch = graph 3 (0 ∷ 1 ∷ []) (1 ∷ 2 ∷ []) (1 ∷ 1 ∷ []);
+  lent = given (1 ∷ 0 ∷ 0 ∷ []) (0 ∷ 1 ∷ 0 ∷ []) 0 (0 ∷ 0 ∷ 0 ∷ []);
+  refusal = 9;
+  imbalances = silent;
+  potentials = silent;
+  cost = silent;
+  moved = silent;
+  entries = silent;
+  best = silent;
+  judged = silent;
+}
+
+-- 10: the same edges; root 0, parents 0 2 1
+abbrev no-chain : Case
+no-chain = record {
+  patch = graph 3 (0 ∷ 1 ∷ []) (1 ∷ 2 ∷ []) (1 ∷ 1 ∷ []);
+  lent = given (1 ∷ 0 ∷ 0 ∷ []) (0 ∷ 1 ∷ 0 ∷ []) 0 (0 ∷ 2 ∷ 1 ∷ []);
+  refusal = 10;
+  imbalances = silent;
+  potentials = silent;
+  cost = silent;
+  moved = silent;
+  entries = silent;
+  best = silent;
+  judged = silent;
+}
+
+-- A's image
+abbrev image-a : Bytes
+image-a = record {
+  image = (4 ∷ 0 ∷ 3 ∷ 0 ∷ 36 ∷ 0 ∷ 0 ∷ 0 ∷ 12 ∷ 0 ∷ 0 ∷ 0 ∷ 48 ∷ 0 ∷ 0 ∷ 0 ∷ 16 ∷ 0 ∷ 0 ∷ 0 ∷ 64 ∷ 0 ∷ 0 ∷ 0 ∷ 16 ∷ 0 ∷ 0 ∷ 0 ∷ 80 ∷ 0 ∷ 0 ∷ 0 ∷ 5 ∷ 0 ∷ 0 ∷ 0 ∷ 0 ∷ 1 ∷ 2 ∷ 0 ∷ 1 ∷ 2 ∷ 3 ∷ 0 ∷ 2 ∷ 3 ∷ 1 ∷ 0 ∷ 5 ∷ 0 ∷ 0 ∷ 0 ∷ 0 ∷ 0 ∷ 0 ∷ 0 ∷ 1 ∷ 0 ∷ 0 ∷ 0 ∷ 0 ∷ 0 ∷ 0 ∷ 0 ∷ 0 ∷ 0 ∷ 0 ∷ 0 ∷ 2 ∷ 0 ∷ 0 ∷ 0 ∷ 1 ∷ 0 ∷ 0 ∷ 0 ∷ 3 ∷ 0 ∷ 0 ∷ 0 ∷ 3 ∷ 1 ∷ 2 ∷ 3 ∷ 3 ∷ []);
+  refusal = 0;
+}
+
+-- 11: 35 bytes
+abbrev short : Bytes
+short = record {
+  image = (0 ∷ 0 ∷ 0 ∷ 0 ∷ 0 ∷ 0 ∷ 0 ∷ 0 ∷ 0 ∷ 0 ∷ 0 ∷ 0 ∷ 0 ∷ 0 ∷ 0 ∷ 0 ∷ 0 ∷ 0 ∷ 0 ∷ 0 ∷ 0 ∷ 0 ∷ 0 ∷ 0 ∷ 0 ∷ 0 ∷ 0 ∷ 0 ∷ 0 ∷ 0 ∷ 0 ∷ 0 ∷ 0 ∷ 0 ∷ 0 ∷ []);
+  refusal = 11;
+}
+
+-- 12: first offset 35
+abbrev early : Bytes
+early = record {
+  image = (2 ∷ 0 ∷ 0 ∷ 0 ∷ 35 ∷ 0 ∷ 0 ∷ 0 ∷ 0 ∷ 0 ∷ 0 ∷ 0 ∷ 36 ∷ 0 ∷ 0 ∷ 0 ∷ 8 ∷ 0 ∷ 0 ∷ 0 ∷ 44 ∷ 0 ∷ 0 ∷ 0 ∷ 8 ∷ 0 ∷ 0 ∷ 0 ∷ 52 ∷ 0 ∷ 0 ∷ 0 ∷ 0 ∷ 0 ∷ 0 ∷ 0 ∷ 0 ∷ 0 ∷ 0 ∷ 0 ∷ 0 ∷ 0 ∷ 0 ∷ 0 ∷ 0 ∷ 0 ∷ 0 ∷ 0 ∷ 0 ∷ 0 ∷ 0 ∷ 0 ∷ []);
+  refusal = 12;
+}
+
+-- 13: n = 2, mu of 4 bytes
+abbrev mu-4 : Bytes
+mu-4 = record {
+  image = (2 ∷ 0 ∷ 0 ∷ 0 ∷ 36 ∷ 0 ∷ 0 ∷ 0 ∷ 0 ∷ 0 ∷ 0 ∷ 0 ∷ 36 ∷ 0 ∷ 0 ∷ 0 ∷ 4 ∷ 0 ∷ 0 ∷ 0 ∷ 40 ∷ 0 ∷ 0 ∷ 0 ∷ 8 ∷ 0 ∷ 0 ∷ 0 ∷ 48 ∷ 0 ∷ 0 ∷ 0 ∷ 0 ∷ 0 ∷ 0 ∷ 0 ∷ 0 ∷ 0 ∷ 0 ∷ 0 ∷ 0 ∷ 0 ∷ 0 ∷ 0 ∷ 0 ∷ 0 ∷ 0 ∷ 0 ∷ []);
+  refusal = 13;
+}
+
+unfoldable pub cases : List Case
+cases = a ∷ b ∷ c ∷ d ∷ e ∷ f ∷ f′ ∷ g ∷ h ∷ n-0 ∷ mu-3 ∷ edge-10 ∷ length-0 ∷ lonely ∷ heavy ∷ unequal ∷ other-root ∷ no-edge ∷ no-chain ∷ []
+
+unfoldable pub images : List Bytes
+images = image-a ∷ short ∷ early ∷ mu-4 ∷ []

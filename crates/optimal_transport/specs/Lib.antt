@@ -6,3 +6,4 @@ pub mod Pivot
 pub mod PathReversal
 pub mod PivotCost
 pub mod Certificate
+pub mod Basis

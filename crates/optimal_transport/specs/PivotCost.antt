@@ -89,7 +89,7 @@ module _ {n r : ℕ} {p : ℕ → ℕ} {a b c : ℕ} {q : ℕ → ℕ} (w : Pivo
       (λ j. let z = moved x false false l e i j in omega arith))
 
   -- at every vertex but a the old potential agrees with the new flow
-  new-agrees : (x : ℕ) → x < n → (x ≡ r → ⊥) → (x ≡ a → ⊥)
+  pub new-agrees : (x : ℕ) → x < n → (x ≡ r → ⊥) → (x ≡ a → ⊥)
       → Agrees (U x) (U (q x)) (len x (q x)) (subtotal q n m x) (subtotal q n v x)
   new-agrees x l d ne =
       elim (place w x l) [

@@ -1,0 +1,201 @@
+-- The moves of the plan's rule, the tree apart: what each move changes and keeps, and that n moves empty one side.
+use Prim.Native.Nat.{ℕ, zero, suc, _+_, _-_, _≤_, _<_, min}
+use mathlib.Core.Path.{_≡_, refl, ap, _∙_}
+use mathlib.Core.Bool.{Bool, true, false, _&&_}
+use mathlib.Core.Logic.{_⊎_, inl, inr, ⊎-elim}
+use native.Mathlib.Omega.{arith}
+use lib.Dec.{eqb, ltb}
+use borrow.Author.Tests.{ne-eqb, ltb-true, ltb-false}
+use Rattle.arithmetic.specs.Bools.{case, case≡, case≤, and-l, and-r, eqb-self}
+use Rattle.arithmetic.specs.Sum.{pick, pick-le, sum, sum-ext, sum-le, sum-lt, sum-one, sum-add, sum-pick, sum-only, sum-only', sum-ge, sum-zeros}
+use Rattle.spanning_tree.specs.Plan.{Making, started, changed, sends, lowest, sender, receiver, moved, settled}
+
+-- ---- the lowest number at which a test holds
+
+pub lowest-found : (f : ℕ → Bool) (k i : ℕ) → lowest f k i < i + k → f (lowest f k i) ≡ true
+unfolding lowest
+lowest-found f zero i h = absurd (omega arith)
+lowest-found f (suc k) i h =
+    case (f i)
+    (λ e. rw e e)
+    (λ e. let g : lowest f k (suc i) < i + suc k = rw e at h in rw e (lowest-found f k (suc i) (omega arith)))
+
+pub lowest-none : (f : ℕ → Bool) (k i : ℕ) → i + k ≤ lowest f k i → (x : ℕ) → i ≤ x → x < i + k → f x ≡ false
+unfolding lowest
+lowest-none f zero i h x a l = absurd (omega arith)
+lowest-none f (suc k) i h x a l =
+    case (f i)
+    (λ e. let g : i + suc k ≤ i = rw e at h in absurd (omega arith))
+    (λ e.
+    let g : i + suc k ≤ lowest f k (suc i) = rw e at h in
+    case≡ x i (λ q. rw q e) (λ d. lowest-none f k (suc i) (omega arith) x (omega arith) (omega arith)))
+
+-- ---- one move
+
+-- s' is s after a move between two vertices of the set b
+pub record Move (n : ℕ) (b : ℕ → Bool) (s s' : Making) : Type 0 where
+  pub i : ℕ
+  pub j : ℕ
+  pub i< : i < n
+  pub j< : j < n
+  pub i-in : b i ≡ true
+  pub j-in : b j ≡ true
+  pub has : 0 < s .surplus i
+  pub lacks : 0 < s .deficit j
+  pub amount : ℕ
+  pub smaller : amount ≡ min (s .surplus i) (s .deficit j)
+  pub sent : (x y : ℕ) → s' .sent x y ≡ s .sent x y + pick (eqb x i) (pick (eqb y j) amount)
+  pub surplus : (x : ℕ) → s' .surplus x + pick (eqb x i) amount ≡ s .surplus x
+  pub deficit : (y : ℕ) → s' .deficit y + pick (eqb y j) amount ≡ s .deficit y
+
+-- one side of the set b is empty
+abbrev pub OneEmpty : ℕ → (ℕ → Bool) → Making → Type 0
+OneEmpty n b s = (sum n (λ x. pick (b x) (s .surplus x)) ≡ 0) ⊎ (sum n (λ x. pick (b x) (s .deficit x)) ≡ 0)
+
+changed-less : (f : ℕ → ℕ) (i v : ℕ) → v ≤ f i → (x : ℕ) → changed f i (f i - v) x + pick (eqb x i) v ≡ f x
+changed-less f i v h x = case≡ x i (λ e. rw (e, eqb-self i) (omega arith)) (λ d. rw (ne-eqb x i d) (omega arith))
+
+changed-more : (f : ℕ → ℕ → ℕ) (i j v x y : ℕ)
+    → changed f i (changed (f i) j (f i j + v)) x y ≡ f x y + pick (eqb x i) (pick (eqb y j) v)
+changed-more f i j v x y =
+    case≡ x i
+    (λ e. rw (e, eqb-self i) (case≡ y j (λ q. rw (q, eqb-self j)) (λ d. rw (ne-eqb y j d) (omega arith))))
+    (λ d. rw (ne-eqb x i d) (omega arith))
+
+-- where the lowest number with the test is n, no vertex of b has any of f
+none-left : (n : ℕ) (b : ℕ → Bool) (f : ℕ → ℕ) → n ≤ lowest (λ x. b x && ltb 0 (f x)) n 0 → sum n (λ x. pick (b x) (f x)) ≡ 0
+none-left n b f h =
+    sum-zeros n _ (λ x l. case (b x)
+    (λ e. let z : ltb 0 (f x) ≡ false = rw e at (lowest-none (λ x. b x && ltb 0 (f x)) n 0 (omega arith) x (omega arith) (omega arith)) in
+    rw e (omega (arith, ltb-false 0 (f x) z)))
+    (λ e. rw e))
+
+-- the vertex that the search finds is in b and has some of f
+found : (n : ℕ) (b : ℕ → Bool) (f : ℕ → ℕ) (i : ℕ) → lowest (λ x. b x && ltb 0 (f x)) n 0 ≡ i → i < n → (b i ≡ true) × (0 < f i)
+found n b f i e h =
+    let z : b i && ltb 0 (f i) ≡ true = rw e at (lowest-found (λ x. b x && ltb 0 (f x)) n 0 (omega arith)) in
+    (and-l (b i) (ltb 0 (f i)) z, ltb-true 0 (f i) (and-r (b i) (ltb 0 (f i)) z))
+
+-- what i sends to j is a move
+send : (n : ℕ) (b : ℕ → Bool) (s : Making) (i j : ℕ) → i < n → j < n → (b i ≡ true) × (0 < s .surplus i) → (b j ≡ true) × (0 < s .deficit j)
+    → Move n b s (sends s i j (min (s .surplus i) (s .deficit j)))
+send n b s i j li lj hi hj = record {
+  i = i;
+  j = j;
+  i< = li;
+  j< = lj;
+  i-in = hi .0;
+  j-in = hj .0;
+  has = hi .1;
+  lacks = hj .1;
+  amount = min (s .surplus i) (s .deficit j);
+  smaller = refl;
+  sent = changed-more (s .sent) i j (min (s .surplus i) (s .deficit j));
+  surplus = changed-less (s .surplus) i (min (s .surplus i) (s .deficit j)) (omega arith);
+  deficit = changed-less (s .deficit) j (min (s .surplus i) (s .deficit j)) (omega arith);
+}
+
+-- a move is made, or one side is empty and nothing changes
+pub move-or-empty : (n : ℕ) (b : ℕ → Bool) (s : Making) → Move n b s (moved n b s) ⊎ ((moved n b s ≡ s) × OneEmpty n b s)
+unfolding moved
+move-or-empty n b s =
+    case (ltb (sender n b s) n)
+    (λ e. case (ltb (receiver n b s) n)
+    (λ f.
+    let g : sender n b s < n = ltb-true (sender n b s) n e in
+    let h : receiver n b s < n = ltb-true (receiver n b s) n f in
+    rw (e, f) (inl (send n b s (sender n b s) (receiver n b s) g h (found n b (s .surplus) _ refl g) (found n b (s .deficit) _ refl h))))
+    (λ f. rw (e, f) (inr (refl, inr (none-left n b (s .deficit) (ltb-false (receiver n b s) n f))))))
+    (λ e. rw e (inr (refl, inl (none-left n b (s .surplus) (ltb-false (sender n b s) n e)))))
+
+-- ---- rows and columns
+
+-- what is sent and the residue make up the masses, and no vertex has a surplus and a deficit
+pub record Kept (n : ℕ) (mu nu : ℕ → ℕ) (s : Making) : Type 0 where
+  pub rows : (i : ℕ) → i < n → sum n (λ j. s .sent i j) + s .surplus i ≡ mu i
+  pub columns : (j : ℕ) → j < n → sum n (λ i. s .sent i j) + s .deficit j ≡ nu j
+  pub apart : (x : ℕ) → x < n → 0 < s .surplus x → s .deficit x ≡ 0
+
+pub kept-started : (n : ℕ) (mu nu : ℕ → ℕ) → Kept n mu nu (started mu nu)
+kept-started n mu nu = record {
+  rows = λ i l. omega (arith, sum-only' n i (λ _. min (mu i) (nu i)) l);
+  columns = λ j l. omega (arith, sum-only n j (λ i. min (mu i) (nu i)) l);
+  apart = λ x l h. omega arith;
+}
+
+module _ {n : ℕ} {b : ℕ → Bool} {s s' : Making} (m : Move n b s s') where
+  row-more : (x : ℕ) → sum n (λ y. s' .sent x y) ≡ sum n (λ y. s .sent x y) + pick (eqb x (m .i)) (m .amount)
+  row-more x =
+      sum-ext n _ _ (λ y l. m .sent x y)
+      ∙ sum-add n (λ y. s .sent x y) (λ y. pick (eqb x (m .i)) (pick (eqb y (m .j)) (m .amount)))
+      ∙ ap (λ (k : ℕ). sum n (λ y. s .sent x y) + k) (sum-pick n (eqb x (m .i)) (λ y. pick (eqb y (m .j)) (m .amount))
+      ∙ ap (λ (k : ℕ). pick (eqb x (m .i)) k) (sum-only n (m .j) (λ _. m .amount) (m .j<)))
+
+  column-more : (y : ℕ) → sum n (λ x. s' .sent x y) ≡ sum n (λ x. s .sent x y) + pick (eqb y (m .j)) (m .amount)
+  column-more y =
+      sum-ext n _ _ (λ x l. m .sent x y)
+      ∙ sum-add n (λ x. s .sent x y) (λ x. pick (eqb x (m .i)) (pick (eqb y (m .j)) (m .amount)))
+      ∙ ap (λ (k : ℕ). sum n (λ x. s .sent x y) + k) (sum-only n (m .i) (λ _. pick (eqb y (m .j)) (m .amount)) (m .i<))
+
+  pub kept-move : (mu nu : ℕ → ℕ) → Kept n mu nu s → Kept n mu nu s'
+  kept-move mu nu h = record {
+    rows = λ x l. omega (arith, row-more x, m .surplus x, h .rows x l);
+    columns = λ y l. omega (arith, column-more y, m .deficit y, h .columns y l);
+    apart = λ x l g. omega (arith, m .deficit x, h .apart x l (omega (arith, m .surplus x)));
+  }
+
+-- ---- n moves are enough
+
+-- how many vertices have a surplus or a deficit
+pub count : ℕ → Making → ℕ
+count n s = sum n (λ x. min 1 (s .surplus x) + min 1 (s .deficit x))
+
+pub count-le : {n : ℕ} {mu nu : ℕ → ℕ} {s : Making} → Kept n mu nu s → count n s ≤ n
+unfolding count
+count-le {n} {mu} {nu} {s} h =
+    omega (
+      arith,
+      sum-one n,
+      sum-le n (λ x. min 1 (s .surplus x) + min 1 (s .deficit x)) (λ _. 1) (λ x l.
+          case≤ 1 (s .surplus x) (λ g. omega (arith, h .apart x l (omega arith))) (λ g. omega arith)),
+    )
+
+-- each move empties a vertex
+count-falls : {n : ℕ} {b : ℕ → Bool} {s s' : Making} → Move n b s s' → count n s' < count n s
+unfolding count
+count-falls {n} {b} {s} {s'} m =
+    case≤ (s .surplus (m .i)) (s .deficit (m .j))
+    (λ h. sum-lt n _ _ (m .i) (m .i<)
+    (omega (arith, m .has, m .smaller, m .deficit (m .i), rw (eqb-self (m .i)) at (m .surplus (m .i)))) less)
+    (λ h. sum-lt n _ _ (m .j) (m .j<)
+    (omega (arith, m .lacks, m .smaller, m .surplus (m .j), rw (eqb-self (m .j)) at (m .deficit (m .j)))) less)
+  where
+    less : (x : ℕ) → x < n → min 1 (s' .surplus x) + min 1 (s' .deficit x) ≤ min 1 (s .surplus x) + min 1 (s .deficit x)
+    less x l = omega (arith, m .surplus x, m .deficit x)
+
+-- where all is empty, the set b is
+count-none : (n : ℕ) (b : ℕ → Bool) (s : Making) → count n s ≤ 0 → OneEmpty n b s
+unfolding count
+count-none n b s h =
+    inl (sum-zeros n _ (λ x l. omega (
+      arith,
+      pick-le (b x) (s .surplus x),
+      sum-ge n x (λ x. min 1 (s .surplus x) + min 1 (s .deficit x)) l,
+    )))
+
+-- where a move changes nothing, no more of them do
+pub settled-still : (n : ℕ) (b : ℕ → Bool) (s : Making) → moved n b s ≡ s → (k : ℕ) → settled n b k s ≡ s
+unfolding settled
+settled-still n b s e zero = refl
+settled-still n b s e (suc k) = rw e (settled-still n b s e k)
+
+-- what each move keeps, the moves of a vertex keep, and they empty one side
+pub settled-keeps : (n : ℕ) (b : ℕ → Bool) (Q : Making → Type 0) → ((s s' : Making) → Q s → Move n b s s' → Q s')
+    → (k : ℕ) (s : Making) → Q s → count n s ≤ k → Q (settled n b k s) × OneEmpty n b (settled n b k s)
+unfolding settled
+settled-keeps n b Q step zero s q h = (q, count-none n b s h)
+settled-keeps n b Q step (suc k) s q h =
+    ⊎-elim
+    (λ m. settled-keeps n b Q step k (moved n b s) (step s (moved n b s) q m) (omega (arith, count-falls m)))
+    (λ z. rw (z .0, settled-still n b s (z .0) k) (q, z .1))
+    (move-or-empty n b s)

@@ -4,3 +4,9 @@ pub mod Distance
 pub mod SpanningTree
 pub mod Checks
 pub mod Distances
+pub mod Accepted
+pub mod EdgeLaws
+pub mod PathLaws
+pub mod ConnectedLaws
+pub mod DistanceLaws
+pub mod FloydWarshall

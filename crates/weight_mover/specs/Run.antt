@@ -22,27 +22,40 @@ abbrev pub graphOf : List ℕ → Graph
 graphOf s =
     graph (vertexCount s) (tab (edgeCount s) (lowerEnd s)) (tab (edgeCount s) (upperEnd s)) (tab (edgeCount s) (edgeLengthOf s))
 
--- "An image with a tree is weighed, one without gets the best answer": the checks of the one or the other; "a shorter buffer is refused 2"
-unfoldable pub runRefusal : List ℕ → List ℕ → ℕ
-runRefusal s buffer =
-    imageRefusal s (graphRefusal (graphOf s) (leb (recordSize (vertexCount s)) (length buffer))
+-- "An image with a tree is weighed, one without gets the best answer": the checks of the one or the other; `room` is what is said of the
+-- buffer under 2
+unfoldable pub answerRefusal : List ℕ → Bool → ℕ
+answerRefusal s room =
+    imageRefusal s (graphRefusal (graphOf s) room
     (measureRefusal (vertexCount s) (amountBefore s) (amountAfter s)
     (cond (hasTree s) (treeRefusal (graphOf s) (rootOf s) (parentOf s)) 0)))
+
+-- "a shorter buffer is refused 2"
+abbrev pub runRefusal : List ℕ → List ℕ → ℕ
+runRefusal s buffer = answerRefusal s (leb (recordSize (vertexCount s)) (length buffer))
 
 -- entry c of a plan's table
 abbrev pub entryOf : ℕ → (ℕ → ℕ → ℕ) → ℕ → ℕ
 entryOf n t c = at (matrix n t) c
 
--- the record of a plan by the rule, from a tree with its root and parents
+-- the plan by the rule, from a tree with its root and parents
+abbrev pub imagePlan : List ℕ → ℕ → (ℕ → ℕ) → ℕ → ℕ → ℕ
+imagePlan s root parent = plan (vertexCount s) root parent (amountBefore s) (amountAfter s)
+
+-- its record
 abbrev pub planRecord : List ℕ → ℕ → ℕ → (ℕ → ℕ) → (ℕ → ℤ) → List ℕ
 planRecord s cost root parent u =
-    record-bytes (vertexCount s) cost (moves (vertexCount s) (plan (vertexCount s) root parent (amountBefore s) (amountAfter s)))
-    root parent u (entryOf (vertexCount s) (plan (vertexCount s) root parent (amountBefore s) (amountAfter s)))
+    record-bytes (vertexCount s) cost (moves (vertexCount s) (imagePlan s root parent)) root parent u
+    (entryOf (vertexCount s) (imagePlan s root parent))
+
+-- the cost of the tree of an image
+abbrev pub weighedCost : List ℕ → ℕ
+weighedCost s = treeCost (graphOf s) (rootOf s) (parentOf s) (amountBefore s) (amountAfter s)
 
 -- the record of an image with a tree
 unfoldable pub weighedRecord : List ℕ → List ℕ
 weighedRecord s =
-    planRecord s (treeCost (graphOf s) (rootOf s) (parentOf s) (amountBefore s) (amountAfter s)) (rootOf s) (parentOf s)
+    planRecord s (weighedCost s) (rootOf s) (parentOf s)
     (potential (graphOf s) (rootOf s) (parentOf s) (amountBefore s) (amountAfter s))
 
 -- a record of the best answer to an image without a tree: it carries demand 3
@@ -50,8 +63,7 @@ pub record BestRecord (s : List ℕ) (bytes : List ℕ) : Type 0 where
   pub cost : ℕ
   pub parents : ℕ → ℕ
   pub u : ℕ → ℤ
-  pub best : Best (graphOf s) (amountBefore s) (amountAfter s) parents
-      (plan (vertexCount s) 0 parents (amountBefore s) (amountAfter s)) u cost
+  pub best : Best (graphOf s) (amountBefore s) (amountAfter s) parents (imagePlan s 0 parents) u cost
   pub bytes-are : bytes ≡ planRecord s cost 0 parents u
 
 -- the whole outcome: the refusal number k, and the buffer as it comes back

@@ -1,1 +1,5 @@
 pub mod FloydWarshallLaws
+pub mod EdgeCases
+pub mod Marking
+pub mod CheckCases
+pub mod DistanceCases

@@ -1,12 +1,12 @@
 -- What a call may rely on once checks 1 to 5 have passed.
 use Prim.Native.Nat.{ℕ, suc, _≤_, _<_}
-use mathlib.Core.Path.{_≡_, refl, sym, _∙_}
+use mathlib.Core.Path.{_≡_, refl}
 use mathlib.Core.Bool.{Bool, true, false, _&&_}
 use native.Mathlib.Omega.{arith}
 use lib.Dec.{ltb, leb, eqb}
 use lib.ListN.{length}
 use borrow.Author.Tests.{ltb-true, leb-true, eqb-true}
-use Rattle.arithmetic.specs.Bools.{case, and-l, and-r, and-true}
+use Rattle.arithmetic.specs.Bools.{and-l, and-r}
 use Rattle.graph.specs.Graph.{Graph, edges}
 use Rattle.graph.specs.Checks.{verticesOk, listsOk, edgesOk, lengthsOk, connected, check, graphRefusal}
 

@@ -33,7 +33,7 @@ module _ (g : Graph) where
       case< v (g .n) (λ l. l)
       (λ l. clash h (List·getD-eq-default (reached g k) false (omega (arith, length-reached k))))
 
-  reached-zero : (v : ℕ) → v < g .n → marked (reached g 0) v ≡ eqb v 0
+  pub reached-zero : (v : ℕ) → v < g .n → marked (reached g 0) v ≡ eqb v 0
   unfolding reached
   reached-zero v h = tab-at (g .n) _ false v h
 
@@ -77,7 +77,7 @@ module _ (g : Graph) where
       b = at (g .upper) (d .number)
 
   -- what a round marks was marked, or an edge leads to it
-  reached-back : {A : Type 0} (k v : ℕ) → Reached (suc k) v → (Reached k v → A) → ((x s : ℕ) → Reached k x → Edge g x v s → A) → A
+  pub reached-back : {A : Type 0} (k v : ℕ) → Reached (suc k) v → (Reached k v → A) → ((x s : ℕ) → Reached k x → Edge g x v s → A) → A
   reached-back k v h old new =
       or-elim (marked (reached g k) v) (any (edges g) (leads g (reached g k) v)) (sym (reached-suc k v (reached-in (suc k) v h)) ∙ h) old
       (λ t.

@@ -10,3 +10,5 @@ pub mod PathLaws
 pub mod ConnectedLaws
 pub mod DistanceLaws
 pub mod FloydWarshall
+pub mod FirstTree
+pub mod Marks

@@ -1,4 +1,0 @@
-pub mod Chain
-pub mod Rooted
-pub mod Subtotal
-pub mod Flow

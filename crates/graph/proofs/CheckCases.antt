@@ -1,15 +1,15 @@
 -- How checks 1 to 5 end, on plain values.
-use mathlib.Core.Path.{_≡_, refl, sym, _∙_}
-use mathlib.Core.Bool.{Bool, true, false, not, _&&_, and-false}
+use mathlib.Core.Path.{_≡_, sym, _∙_}
+use mathlib.Core.Bool.{Bool, true, false, not, and-false}
 use mathlib.Core.List.{List}
 use Prim.Native.Nat.{ℕ, _≤_, _<_}
 use native.Mathlib.Omega.{arith}
 use lib.ListN.{length}
 use lib.Dec.{eqb, leb}
 use borrow.Author.Tests.{lt-ltb, le-leb, lt-leb, eq-eqb, ne-eqb, not-true, not-false}
-use Rattle.graph.specs.Graph.{Graph, graph, edges}
-use Rattle.graph.specs.Checks.{verticesOk, listsOk, edgesOk, lengthsOk, connected, graphRefusal}
-use Rattle.graph.specs.FirstTree.{FirstTree, Searched, Checked}
+use Rattle.graph.specs.Graph.{Graph, graph}
+use Rattle.graph.specs.Checks.{verticesOk, listsOk, edgesOk, lengthsOk, graphRefusal}
+use Rattle.graph.specs.FirstTree.{Searched, Checked}
 
 -- a test that answers b, asked for its failure
 pub fails : (r b : Bool) → r ≡ b → not r ≡ true → b ≡ false

@@ -1,13 +1,13 @@
 -- The cases of `edgeOk` and `lengthOk`, on plain numbers and lists.
-use mathlib.Core.Path.{_≡_, refl, sym, ap, _∙_}
-use mathlib.Core.Bool.{Bool, true, false, _&&_, _||_, and-false}
+use mathlib.Core.Path.{_≡_, sym}
+use mathlib.Core.Bool.{Bool, true, false, and-false}
 use mathlib.Core.List.{List, []}
-use Prim.Native.Nat.{ℕ, _+_, _-_, _≤_, _<_}
+use Prim.Native.Nat.{ℕ, _-_, _≤_, _<_}
 use native.Mathlib.Omega.{arith}
 use lib.ListN.{length}
-use lib.Dec.{ltb, leb, eqb}
+use lib.Dec.{ltb}
 use borrow.Author.Tests.{lt-ltb, le-ltb, le-leb, lt-leb, eq-eqb, ne-eqb}
-use Rattle.arithmetic.specs.Bools.{all, case, case<}
+use Rattle.arithmetic.specs.Bools.{all, case}
 use Rattle.arithmetic.specs.Table.{at}
 use Rattle.graph.specs.Graph.{graph}
 use Rattle.graph.specs.Checks.{after, edgeOk, lengthOk, lengthsOk}

@@ -3,3 +3,4 @@ pub mod EdgeCases
 pub mod Marking
 pub mod CheckCases
 pub mod DistanceCases
+pub mod RecordCases

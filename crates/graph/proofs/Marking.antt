@@ -20,7 +20,7 @@ use Rattle.graph.specs.Checks.{marked, reached, connected, edgesOk}
 use Rattle.graph.specs.EdgeLaws.{joins-ends, ends-joins, edge-turn, edge-joined, edge-order, edge-in}
 use Rattle.graph.specs.ConnectedLaws.{reached-in, reached-zero, reached-back, connected-from}
 use Rattle.graph.specs.FirstTree.{FirstTree, Searched}
-use Rattle.graph.specs.Marks.{seen, count, EdgeList, Hangs, Marks, put, Marked, Followed, Round}
+use Rattle.graph.specs.Marks.{seen, count, EdgeList, Hangs, Marks, Marked, Followed, Round}
 
 -- ---- one more vertex marked
 

@@ -12,3 +12,4 @@ pub mod DistanceLaws
 pub mod FloydWarshall
 pub mod FirstTree
 pub mod Marks
+pub mod Records

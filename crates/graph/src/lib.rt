@@ -9,7 +9,11 @@ ghost use Rattle.graph.specs.FirstTree.{Checked};
 
 mod edges;
 mod floyd_warshall;
+pub mod records;
 mod search;
+
+pub use records::EdgeRecord;
+pub use records::distances_of_records;
 
 // Checks 1 to 5; `tables` says whether the caller's own tables pass check 2. An accepted graph's first spanning tree stands in the two
 // scratch tables: each vertex's parent, and the number of the edge to it.

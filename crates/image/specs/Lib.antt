@@ -1,2 +1,4 @@
 pub mod Image
 pub mod Read
+pub mod Bytes
+pub mod ReadLaws

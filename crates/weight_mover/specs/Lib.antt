@@ -1,3 +1,6 @@
 pub mod Record
 pub mod Run
 pub mod Listing
+pub mod Placed
+pub mod RecordLaws
+pub mod ListingLaws

@@ -1,0 +1,68 @@
+-- What the sections' functions give, over an image s and the numbers that the code has read from it.
+use mathlib.Core.Path.{_≡_, sym, ap, _∙_}
+use mathlib.Core.Bool.{true, false, cond}
+use mathlib.Core.List.{List, [], _++_}
+use Prim.Native.Nat.{ℕ, _+_, _*_}
+use native.Mathlib.Omega.{arith}
+use lib.ListN.{drop}
+use borrow.Author.Tests.{eq-eqb, ne-eqb}
+use Rattle.arithmetic.specs.Sum.{pick}
+use Rattle.arithmetic.specs.Table.{at, tab, written, tab-ext, length-tab}
+use Rattle.image.specs.Image.{two, four, vertexCount, edgeCount, offset, extent, hasTree, lowerEnd, upperEnd, edgeLengthOf, amountBefore, amountAfter, rootOf, parentOf}
+
+-- a loop's table of c numbers f is the answer's table of m numbers g
+listed : (c m : ℕ) (f g : ℕ → ℕ) (l out : List ℕ) → c ≡ m → ((e : ℕ) → f e ≡ g e) → out ≡ tab c f ++ drop c l
+    → out ≡ written 0 (tab m g) l
+listed c m f g l out e h k = k ∙ rw (e, tab-ext m f g (λ i b. h i), length-tab m g)
+
+module _ (s : List ℕ) where
+  module _ (m x : ℕ) (em : m ≡ edgeCount s) (ex : x ≡ offset s 0) (l out : List ℕ) where
+    pub lower-filled : out ≡ tab m (λ e. at s (x + 4 * e)) ++ drop m l → out ≡ written 0 (tab (edgeCount s) (lowerEnd s)) l
+    lower-filled = listed m _ _ (lowerEnd s) l out em (λ e. ap (λ (k : ℕ). at s (k + 4 * e)) ex)
+
+    pub upper-filled : out ≡ tab m (λ e. at s (x + 1 + 4 * e)) ++ drop m l → out ≡ written 0 (tab (edgeCount s) (upperEnd s)) l
+    upper-filled =
+        listed m _ _ (upperEnd s) l out em
+        (λ e. let z : x + 1 + 4 * e ≡ offset s 0 + 4 * e + 1 = omega arith in ap (λ (k : ℕ). at s k) z)
+
+    pub lengths-filled : out ≡ tab m (λ e. two s (x + 2 + 4 * e)) ++ drop m l → out ≡ written 0 (tab (edgeCount s) (edgeLengthOf s)) l
+    lengths-filled =
+        listed m _ _ (edgeLengthOf s) l out em
+        (λ e. let z : x + 2 + 4 * e ≡ offset s 0 + 4 * e + 2 = omega arith in ap (λ (k : ℕ). two s k) z)
+
+  module _ (n x : ℕ) (en : n ≡ vertexCount s) (l out : List ℕ) where
+    pub mu-filled : x ≡ offset s 1 → out ≡ tab n (λ e. four s (x + 4 * e)) ++ drop n l
+        → out ≡ written 0 (tab (vertexCount s) (amountBefore s)) l
+    mu-filled ex = listed n _ _ (amountBefore s) l out en (λ e. ap (λ (k : ℕ). four s (k + 4 * e)) ex)
+
+    pub nu-filled : x ≡ offset s 2 → out ≡ tab n (λ e. four s (x + 4 * e)) ++ drop n l
+        → out ≡ written 0 (tab (vertexCount s) (amountAfter s)) l
+    nu-filled ex = listed n _ _ (amountAfter s) l out en (λ e. ap (λ (k : ℕ). four s (k + 4 * e)) ex)
+
+  -- the tree: y is its length
+  module _ (y : ℕ) (ey : y ≡ extent s 3) where
+    has : (y ≡ 0 → ⊥) → hasTree s ≡ true
+    has h = rw (ne-eqb (extent s 3) 0 (λ z. h (ey ∙ z)))
+
+    has-not : y ≡ 0 → hasTree s ≡ false
+    has-not h = rw (eq-eqb (extent s 3) 0 (sym ey ∙ h))
+
+    pub parents-filled : (y ≡ 0 → ⊥) → (n x : ℕ) → n ≡ vertexCount s → x ≡ offset s 3 → (l out : List ℕ)
+        → out ≡ tab n (λ e. at s (x + 1 + 1 * e)) ++ drop n l
+        → out ≡ written 0 (cond (hasTree s) (tab (vertexCount s) (parentOf s)) []) l
+    parents-filled h n x en ex l out k =
+        rw (has h)
+        (listed n _ _ (parentOf s) l out en (λ e. let z : x + 1 + 1 * e ≡ offset s 3 + 1 + e = omega arith in ap (λ (k : ℕ). at s k) z) k)
+
+    pub parents-kept : y ≡ 0 → (l : List ℕ) → l ≡ written 0 (cond (hasTree s) (tab (vertexCount s) (parentOf s)) []) l
+    parents-kept h l = rw (has-not h)
+
+    -- what is returned of the tree
+    pub root-read : (y ≡ 0 → ⊥) → (v x : ℕ) → v ≡ at s x → x ≡ offset s 3 → v ≡ pick (hasTree s) (rootOf s)
+    root-read h v x e ex = rw (has h) (e ∙ ap (λ (k : ℕ). at s k) ex)
+
+    pub tree-marked : (y ≡ 0 → ⊥) → 1 ≡ pick (hasTree s) 1
+    tree-marked h = rw (has h)
+
+    pub no-tree : y ≡ 0 → (v : ℕ) → 0 ≡ pick (hasTree s) v
+    no-tree h v = rw (has-not h)

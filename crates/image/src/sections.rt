@@ -1,0 +1,81 @@
+// What the sections of an accepted image hold, and the lists filled with it.
+ghost use mathlib.Core.Path.{_≡_};
+ghost use mathlib.Core.Bool.{cond};
+ghost use mathlib.Core.List.{[]};
+ghost use Prim.Native.Nat.{_≤_};
+ghost use lib.ListN.{length};
+ghost use Rattle.arithmetic.specs.Sum.{pick};
+ghost use Rattle.arithmetic.specs.Table.{tab, written};
+ghost use Rattle.image.specs.Image.{vertexCount, edgeCount, lowerEnd, upperEnd, edgeLengthOf, amountBefore, amountAfter, hasTree, rootOf, parentOf};
+ghost use Rattle.image.specs.Bytes.{Held};
+use super::bytes::fill_bytes;
+use super::bytes::fill_fours;
+use super::bytes::fill_twos;
+use super::bytes::get;
+use super::checks::edge_count;
+use super::checks::extent;
+use super::checks::offset;
+use super::checks::vertex_count;
+
+// The edges: lower ends, upper ends and lengths.
+pub fn fill_edges(image: &[u8], a: &mut [u32], b: &mut [u32], lengths: &mut [u32])
+    requires { ⌜ Held (now image) ⌝ }
+    requires { ⌜ (edgeCount (now image) ≤ length (now a)) × ((edgeCount (now image) ≤ length (now b))
+        × (edgeCount (now image) ≤ length (now lengths))) ⌝ }
+    ensures { λ _. ⌜ now (a .exit) ≡ written 0 (tab (edgeCount (now (image .entry))) (lowerEnd (now (image .entry)))) (now (a .entry)) ⌝ }
+    ensures { λ _. ⌜ now (b .exit) ≡ written 0 (tab (edgeCount (now (image .entry))) (upperEnd (now (image .entry)))) (now (b .entry)) ⌝ }
+    ensures { λ _. ⌜ now (lengths .exit)
+        ≡ written 0 (tab (edgeCount (now (image .entry))) (edgeLengthOf (now (image .entry)))) (now (lengths .entry)) ⌝ }
+{
+    let m = edge_count(image);
+    let from = offset(image, 0);
+    fill_bytes(image, from, 4, m, a);
+    fill_bytes(image, from + 1, 4, m, b);
+    fill_twos(image, from + 2, m, lengths);
+}
+
+// The paintings.
+pub fn fill_amounts(image: &[u8], mu: &mut [u64], nu: &mut [u64])
+    requires { ⌜ Held (now image) ⌝ }
+    requires { ⌜ (vertexCount (now image) ≤ length (now mu)) × (vertexCount (now image) ≤ length (now nu)) ⌝ }
+    ensures { λ _. ⌜ now (mu .exit)
+        ≡ written 0 (tab (vertexCount (now (image .entry))) (amountBefore (now (image .entry)))) (now (mu .entry)) ⌝ }
+    ensures { λ _. ⌜ now (nu .exit)
+        ≡ written 0 (tab (vertexCount (now (image .entry))) (amountAfter (now (image .entry)))) (now (nu .entry)) ⌝ }
+{
+    let n = vertex_count(image);
+    fill_fours(image, offset(image, 1), n, mu);
+    fill_fours(image, offset(image, 2), n, nu);
+}
+
+// The tree's parents, or nothing without a tree.
+pub fn fill_parents(image: &[u8], parents: &mut [u32])
+    requires { ⌜ Held (now image) ⌝ }
+    requires { ⌜ vertexCount (now image) ≤ length (now parents) ⌝ }
+    ensures { λ _. ⌜ now (parents .exit) ≡ written 0
+        (cond (hasTree (now (image .entry))) (tab (vertexCount (now (image .entry))) (parentOf (now (image .entry)))) [])
+        (now (parents .entry)) ⌝ }
+{
+    if extent(image, 3) != 0 {
+        fill_bytes(image, offset(image, 3) + 1, 1, vertex_count(image), parents);
+    }
+}
+
+// The tree's root, or 0.
+pub fn root(image: &[u8]) -> usize
+    requires { ⌜ Held (now image) ⌝ }
+    ensures { λ r. ⌜ r ≡ pick (hasTree (now (image .entry))) (rootOf (now (image .entry))) ⌝ }
+{
+    if extent(image, 3) == 0 {
+        return 0;
+    }
+    get(image, offset(image, 3)) as usize
+}
+
+// 1 for a tree, else 0.
+pub fn tree_mark(image: &[u8]) -> u32
+    requires { ⌜ 36 ≤ length (now image) ⌝ }
+    ensures { λ r. ⌜ r ≡ pick (hasTree (now (image .entry))) 1 ⌝ }
+{
+    if extent(image, 3) == 0 { 0 } else { 1 }
+}

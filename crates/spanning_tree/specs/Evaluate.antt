@@ -11,7 +11,7 @@ use Rattle.graph.specs.Graph.{Graph}
 use Rattle.graph.specs.Checks.{graphRefusal}
 use Rattle.spanning_tree.specs.Checks.{measureRefusal, treeRefusal}
 use Rattle.spanning_tree.specs.Weigh.{imbalance, potential, treeCost}
-use Rattle.spanning_tree.specs.Plan.{plan, moves}
+use Rattle.transport_plan.specs.Plan.{plan, moves}
 
 -- what is lent: a painting before, one after, and a tree's root and parents
 pub record Given : Type 0 where

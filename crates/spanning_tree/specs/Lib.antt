@@ -1,8 +1,10 @@
 pub mod Checks
 pub mod Tree
 pub mod Weigh
-pub mod Plan
 pub mod Evaluate
-pub mod PlanRun
-pub mod PlanLaws
-pub mod PlanCost
+pub mod TreeTests
+pub mod Walk
+pub mod ParentEdges
+pub mod TreeValue
+pub mod WeighLaws
+pub mod EvaluateLaws

@@ -12,7 +12,7 @@ use Rattle.graph.specs.Graph.{Graph, graph, edges}
 use Rattle.graph.specs.Checks.{graphRefusal}
 use Rattle.spanning_tree.specs.Checks.{treeRefusal}
 use Rattle.spanning_tree.specs.Weigh.{difference, imbalance, potential, treeCost}
-use Rattle.spanning_tree.specs.Plan.{moves}
+use Rattle.transport_plan.specs.Plan.{moves}
 use Rattle.spanning_tree.specs.Evaluate.{Given, given, givenRefusal, treePlan}
 use Rattle.image.specs.Read.{lists, readRefusal}
 

@@ -10,7 +10,7 @@ use Rattle.graph.specs.Graph.{joined, edgeLength}
 use Rattle.graph.specs.Checks.{verticesOk, listsOk, edgeOk, lengthOk, reached, connected, graphRefusal}
 use Rattle.spanning_tree.specs.Checks.{totalsOk, totalsEqual, parentsOk, treeEdgesOk, chainsOk}
 use Rattle.spanning_tree.specs.Weigh.{imbalance, potential, treeCost}
-use Rattle.spanning_tree.specs.Plan.{lowest, moved, settled, layer, layers, plan, moves}
+use Rattle.transport_plan.specs.Plan.{lowest, moved, settled, layer, layers, plan, moves}
 use Rattle.image.specs.Image.{sizeOk, sectionOk, layoutOk}
 use Rattle.image.specs.Read.{roomOk, readRefusal}
 use Rattle.worked_cases.specs.Figures.{sames, certifies, holds, reads, every}

@@ -11,8 +11,8 @@ use Rattle.arithmetic.specs.Sum.{pick, pick-zero, sum, sum-ext, sum-add, sum-on
 use Rattle.rooted_tree.specs.Chain.{below, depth}
 use Rattle.rooted_tree.specs.Rooted.{Rooted, trans-b, comparable, all-b, depth-strict, depth-lt}
 use Rattle.rooted_tree.specs.Subtotal.{subtotal, subtotal-root}
-use Rattle.spanning_tree.specs.Plan.{Making, started, settled, layer, layers, plan}
-use Rattle.spanning_tree.specs.PlanRun.{Move, OneEmpty, Kept, kept-started, kept-move, count-le, settled-keeps}
+use Rattle.transport_plan.specs.Plan.{Making, started, settled, layer, layers, plan}
+use Rattle.transport_plan.specs.PlanRun.{Move, OneEmpty, Kept, kept-started, kept-move, count-le, settled-keeps}
 
 -- the way from i to j climbs only edges with a positive imbalance and descends only edges with a negative one
 pub record Climbs (n : ℕ) (p mu nu : ℕ → ℕ) (i j : ℕ) : Type 0 where

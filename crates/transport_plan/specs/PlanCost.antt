@@ -10,8 +10,8 @@ use Rattle.rooted_tree.specs.Chain.{below}
 use Rattle.rooted_tree.specs.Rooted.{Rooted, tree-ind, refl-b, up-b, down-b, root-b, antisym, all-b}
 use Rattle.rooted_tree.specs.Subtotal.{subtotal}
 use Rattle.rooted_tree.specs.Flow.{flowCost, tree-strong, height, height-up, height-down, height-agrees}
-use Rattle.spanning_tree.specs.Plan.{plan}
-use Rattle.spanning_tree.specs.PlanLaws.{Climbs, plan-climbs, plan-rows, plan-columns}
+use Rattle.transport_plan.specs.Plan.{plan}
+use Rattle.transport_plan.specs.PlanLaws.{Climbs, plan-climbs, plan-rows, plan-columns}
 
 -- d is a distance within the lengths l of the tree's edges
 pub record Within (n r : ℕ) (p l : ℕ → ℕ) (d : ℕ → ℕ → ℕ) : Type 0 where

@@ -8,7 +8,7 @@ use lib.Dec.{eqb, ltb}
 use borrow.Author.Tests.{ne-eqb, ltb-true, ltb-false}
 use Rattle.arithmetic.specs.Bools.{case, case≡, case≤, and-l, and-r, eqb-self}
 use Rattle.arithmetic.specs.Sum.{pick, pick-le, sum, sum-ext, sum-le, sum-lt, sum-one, sum-add, sum-pick, sum-only, sum-only', sum-ge, sum-zeros}
-use Rattle.spanning_tree.specs.Plan.{Making, started, changed, sends, lowest, sender, receiver, moved, settled}
+use Rattle.transport_plan.specs.Plan.{Making, started, changed, sends, lowest, sender, receiver, moved, settled}
 
 -- ---- the lowest number at which a test holds
 
@@ -71,13 +71,13 @@ none-left n b f h =
     (λ e. rw e))
 
 -- the vertex that the search finds is in b and has some of f
-found : (n : ℕ) (b : ℕ → Bool) (f : ℕ → ℕ) (i : ℕ) → lowest (λ x. b x && ltb 0 (f x)) n 0 ≡ i → i < n → (b i ≡ true) × (0 < f i)
+pub found : (n : ℕ) (b : ℕ → Bool) (f : ℕ → ℕ) (i : ℕ) → lowest (λ x. b x && ltb 0 (f x)) n 0 ≡ i → i < n → (b i ≡ true) × (0 < f i)
 found n b f i e h =
     let z : b i && ltb 0 (f i) ≡ true = rw e at (lowest-found (λ x. b x && ltb 0 (f x)) n 0 (omega arith)) in
     (and-l (b i) (ltb 0 (f i)) z, ltb-true 0 (f i) (and-r (b i) (ltb 0 (f i)) z))
 
 -- what i sends to j is a move
-send : (n : ℕ) (b : ℕ → Bool) (s : Making) (i j : ℕ) → i < n → j < n → (b i ≡ true) × (0 < s .surplus i) → (b j ≡ true) × (0 < s .deficit j)
+pub send : (n : ℕ) (b : ℕ → Bool) (s : Making) (i j : ℕ) → i < n → j < n → (b i ≡ true) × (0 < s .surplus i) → (b j ≡ true) × (0 < s .deficit j)
     → Move n b s (sends s i j (min (s .surplus i) (s .deficit j)))
 send n b s i j li lj hi hj = record {
   i = i;
@@ -147,7 +147,7 @@ module _ {n : ℕ} {b : ℕ → Bool} {s s' : Making} (m : Move n b s s') where
 -- ---- n moves are enough
 
 -- how many vertices have a surplus or a deficit
-pub count : ℕ → Making → ℕ
+unfoldable pub count : ℕ → Making → ℕ
 count n s = sum n (λ x. min 1 (s .surplus x) + min 1 (s .deficit x))
 
 pub count-le : {n : ℕ} {mu nu : ℕ → ℕ} {s : Making} → Kept n mu nu s → count n s ≤ n
@@ -161,7 +161,7 @@ count-le {n} {mu} {nu} {s} h =
     )
 
 -- each move empties a vertex
-count-falls : {n : ℕ} {b : ℕ → Bool} {s s' : Making} → Move n b s s' → count n s' < count n s
+pub count-falls : {n : ℕ} {b : ℕ → Bool} {s s' : Making} → Move n b s s' → count n s' < count n s
 unfolding count
 count-falls {n} {b} {s} {s'} m =
     case≤ (s .surplus (m .i)) (s .deficit (m .j))

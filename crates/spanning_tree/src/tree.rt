@@ -1,0 +1,100 @@
+// A tree by value: n, its root and the parents of its vertices.
+ghost use mathlib.Core.Path.{_≡_};
+ghost use lib.Dec.{ltb};
+ghost use Rattle.arithmetic.specs.Sum.{pick};
+ghost use Rattle.arithmetic.specs.Table.{at};
+ghost use Rattle.spanning_tree.specs.Tree.{known, depthOf, parentOf, subtreeOf};
+ghost use Rattle.spanning_tree.specs.TreeValue.{parentsHeld};
+use crate::checks;
+use crate::walk;
+
+pub struct Tree {
+    pub n: usize,
+    pub root: usize,
+    pub parents: [u32; 64],
+}
+
+// the parent of x in a list of parents of n vertices; 0 for any other number
+fn listed(n: usize, parents: &[u32], x: usize) -> u32
+    ensures { λ r. ⌜ r ≡ pick (ltb x n) (at (now (parents .entry)) x) ⌝ }
+{
+    if x >= n {
+        return 0;
+    }
+    if x >= parents.len() {
+        return 0;
+    }
+    parents[x]
+}
+
+impl Tree {
+    // the tree with a root and a list of parents; places from n on hold 0
+    pub fn new(n: usize, root: usize, parents: &[u32]) -> Self
+        ensures { λ t. ⌜ (t .n ≡ n) × ((t .root ≡ root) × (t .parents ≡ parentsHeld n (now (parents .entry)))) ⌝ }
+    {
+        let mut held = [0u32; 64];
+        let mut x: usize = 0;
+        while x < 64 {
+            held[x] = listed(n, parents, x);
+            x += 1;
+        }
+        Tree {
+            n: n,
+            root: root,
+            parents: held,
+        }
+    }
+
+    // whether v is a vertex, and checks 1, 8 and 10 accept the tree
+    pub fn knows(self, v: usize) -> bool
+        ensures { λ r. ⌜ r ≡ known (self .n) (self .root) (self .parents) v ⌝ }
+    {
+        let n = self.n;
+        let root = self.root;
+        let parents = self.parents;
+        if v >= n {
+            return false;
+        }
+        if n > 64 {
+            return false;
+        }
+        if !checks::parents_ok(n, root, &parents) {
+            return false;
+        }
+        walk::chains_reach(n, root, &parents)
+    }
+
+    // the number of edges from v up to the root
+    pub fn depth(self, v: usize) -> u32
+        ensures { λ d. ⌜ d ≡ depthOf (self .n) (self .root) (self .parents) v ⌝ }
+    {
+        if !self.knows(v) {
+            return 0;
+        }
+        let parents = self.parents;
+        walk::depth_of(self.n, self.root, &parents, v)
+    }
+
+    // the parent of v
+    pub fn parent(self, v: usize) -> u32
+        ensures { λ p. ⌜ p ≡ parentOf (self .n) (self .root) (self .parents) v ⌝ }
+    {
+        if !self.knows(v) {
+            return 64;
+        }
+        self.parents[v]
+    }
+
+    // the mask of the vertices below v
+    pub fn subtree(self, v: usize) -> u64
+        ensures { λ m. ⌜ m ≡ subtreeOf (self .n) (self .root) (self .parents) v ⌝ }
+    {
+        if !self.knows(v) {
+            return 0;
+        }
+        let parents = self.parents;
+        let mut masks = [0u64; 64];
+        walk::subtree_masks(self.n, self.root, &parents, &mut masks);
+        masks[v]
+    }
+}

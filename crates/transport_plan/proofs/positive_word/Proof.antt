@@ -1,0 +1,53 @@
+use Prim.Native.Nat.{_≤_, _-_}
+use mathlib.Core.Path.{_≡_}
+use native.Mathlib.Omega.{arith}
+use Rattle.transport_plan.specs.PlanSteps.{positive}
+use Rattle.transport_plan.proofs.Words.{mask-none, mask-step, mask-end, mask-under}
+use Rattle.transport_plan.proofs.positive_word.Statement.{statement}
+use Rattle.transport_plan.proofs.positive_word.Tie as tie
+
+abbrev Inv-loop : tie.InvT-loop
+Inv-loop n amounts word₀ x₀ word x =
+    (x ≤ n) × (word ≡ positive x amounts)
+
+abbrev μ-loop : tie.MeasureT-loop
+μ-loop n amounts word₀ x₀ word x = n - x
+
+loop-holds : tie.Need-loop-holds Inv-loop μ-loop
+loop-holds c = (omega arith, mask-none _)
+
+mul-with-positive : tie.Need-mul-with-positive Inv-loop μ-loop
+mul-with-positive c = omega arith
+
+element-copy-out-with-positive : tie.Need-element-copy-out-with-positive Inv-loop μ-loop
+element-copy-out-with-positive c = omega arith
+
+with-positive-requires : tie.Need-with-positive-requires Inv-loop μ-loop
+with-positive-requires c κs = (omega arith, mask-under _ _ _ (c .before .before .loop .inv .1))
+
+add-x : tie.Need-add-x Inv-loop μ-loop
+add-x c = omega arith
+
+loop-less : tie.Need-loop-less Inv-loop μ-loop
+loop-less c = omega arith
+
+loop-again : tie.Need-loop-again Inv-loop μ-loop
+loop-again c = (omega arith, mask-step _ _ _ _ (c .before .before .before .loop .inv .1) (c .with-positive .ensures))
+
+returns : tie.Need-returns Inv-loop μ-loop
+returns c = mask-end _ _ _ _ (c .before .loop .inv .0) (c .loop-test .left) (c .before .loop .inv .1)
+
+pub positive-word-spec : {M : Type 1} → statement M
+positive-word-spec =
+    tie.close
+    (tie.spec
+    Inv-loop
+    μ-loop
+    loop-holds
+    mul-with-positive
+    element-copy-out-with-positive
+    with-positive-requires
+    add-x
+    loop-less
+    loop-again
+    returns)

@@ -1,0 +1,57 @@
+use Prim.Native.Nat.{_≤_, _-_}
+use native.Mathlib.Omega.{arith}
+use Rattle.arithmetic.specs.Table.{at}
+use Rattle.transport_plan.specs.PlanSteps.{making}
+use Rattle.transport_plan.proofs.PlanLayers.{Layering, layering-none, layering-more, layering-end}
+use Rattle.transport_plan.proofs.take_layers.Statement.{statement}
+use Rattle.transport_plan.proofs.take_layers.Tie as tie
+
+abbrev Inv-loop : tie.InvT-loop
+Inv-loop n root parents depth masks senders₀ receivers₀ surplus₀ deficit₀ plan₀ depths done₀ senders receivers surplus deficit plan done =
+    (done ≤ depths) × Layering n root (at parents) (depths - done) (making n plan₀ surplus₀ deficit₀) plan₀ senders receivers surplus deficit plan
+
+abbrev μ-loop : tie.MeasureT-loop
+μ-loop n root parents depth masks senders₀ receivers₀ surplus₀ deficit₀ plan₀ depths done₀ senders receivers surplus deficit plan done = depths - done
+
+cast-depths : tie.Need-cast-depths Inv-loop μ-loop
+cast-depths c = omega arith
+
+loop-holds : tie.Need-loop-holds Inv-loop μ-loop
+loop-holds c = (omega arith, layering-none _ _ _ _ _ _ _ _ _ (omega arith) (c .before .before .before .before .pre .1))
+
+add-done : tie.Need-add-done Inv-loop μ-loop
+add-done c = omega arith
+
+sub-d : tie.Need-sub-d Inv-loop μ-loop
+sub-d c = omega arith
+
+take-layer-requires : tie.Need-take-layer-requires Inv-loop μ-loop
+take-layer-requires c κs = (c .before .before .before .before .before .before .before .before .before .before .before .pre .0, c .before .before .before .before .before .before .loop .inv .1 .held)
+
+loop-less : tie.Need-loop-less Inv-loop μ-loop
+loop-less c = omega arith
+
+loop-again : tie.Need-loop-again Inv-loop μ-loop
+loop-again c = (omega arith, layering-more _ _ _ _ _ _ _ _ _ _ _ _ _ _ _ _ _ (omega arith) (c .before .before .before .before .before .before .before .before .before .loop .inv .1) (c .before .before .take-layer .ensures))
+
+same-length : tie.Need-same-length Inv-loop μ-loop
+same-length c = c .before .loop .inv .1 .kept .long
+
+returns : tie.Need-returns Inv-loop μ-loop
+returns c = layering-end _ _ _ _ _ _ _ _ _ _ _ (omega arith) (c .before .loop .inv .1)
+
+pub take-layers-spec : {M : Type 1} → statement M
+take-layers-spec =
+    tie.close
+    (tie.spec
+    Inv-loop
+    μ-loop
+    cast-depths
+    loop-holds
+    add-done
+    sub-d
+    take-layer-requires
+    loop-less
+    loop-again
+    same-length
+    returns)

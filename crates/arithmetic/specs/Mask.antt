@@ -56,8 +56,10 @@ bit-mask (suc m) p i h =
     split : (t : Bool) → mask m p + pick t (2 ^ m) ≡ pick t 1 * 2 ^ m + mask m p
     split true = omega arith
     split false = omega arith
+
     top : (t : Bool) → bit (pick t 1 * 2 ^ m + mask m p) m ≡ t
     top true = ap (λ (x : ℕ). eqb (x % 2) 1) (high 1 m (mask-lt m p))
     top false = ap (λ (x : ℕ). eqb (x % 2) 1) (high 0 m (mask-lt m p))
+
     rest : (t : Bool) → i < m → bit (pick t 1 * 2 ^ m + mask m p) i ≡ bit (mask m p) i
     rest t g = ap (λ (x : ℕ). eqb x 1) (sym (bit-low _ m i g) ∙ ap (λ (x : ℕ). x / 2 ^ i % 2) (low (pick t 1) m (mask-lt m p)))

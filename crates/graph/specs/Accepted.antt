@@ -28,9 +28,10 @@ pub lists-in : (g : Graph) → listsOk g ≡ true
     → (edges g ≤ 512) × ((length (g .upper) ≡ edges g) × (length (g .lengths) ≡ edges g))
 unfolding listsOk
 lists-in g h =
-    let t = and-r (leb (edges g) 512) _ h in
-    (leb-true _ 512 (and-l (leb (edges g) 512) _ h),
-    (eqb-true _ _ (and-l (eqb (length (g .upper)) (edges g)) _ t), eqb-true _ _ (and-r (eqb (length (g .upper)) (edges g)) _ t)))
+    let t = and-r (leb (edges g) 512) _ h in (
+      leb-true _ 512 (and-l (leb (edges g) 512) _ h),
+      (eqb-true _ _ (and-l (eqb (length (g .upper)) (edges g)) _ t), eqb-true _ _ (and-r (eqb (length (g .upper)) (edges g)) _ t)),
+    )
 
 -- a check that refuses nothing passed, and so did those after it
 pub check-passed : (k : ℕ) (b : Bool) (rest : ℕ) → 0 < k → check k b rest ≡ 0 → (b ≡ true) × (rest ≡ 0)

@@ -8,7 +8,7 @@ use Rattle.graph.specs.Graph.{Graph}
 use Rattle.graph.specs.SpanningTree.{SpanningTree}
 use Rattle.spanning_tree.specs.Weigh.{treeCost}
 use Rattle.spanning_tree.specs.Evaluate.{Given, givenRefusal}
-use Rattle.optimal_transport.specs.Best.{LeastTree}
+use Rattle.duality.specs.Best.{LeastTree}
 
 -- "weighing and judging run to 10"; judging has no answer table
 unfoldable pub judgeRefusal : Graph → Given → ℕ

@@ -1,9 +1,3 @@
-pub mod Best
 pub mod Solve
 pub mod Judge
-pub mod PlanDuality
-pub mod Pivot
-pub mod PathReversal
-pub mod PivotCost
-pub mod Certificate
-pub mod Basis
+pub mod SolveLaws

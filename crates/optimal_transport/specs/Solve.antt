@@ -10,8 +10,8 @@ use Rattle.arithmetic.specs.Table.{at, matrix, result, written}
 use Rattle.graph.specs.Graph.{Graph}
 use Rattle.graph.specs.Checks.{graphRefusal}
 use Rattle.spanning_tree.specs.Checks.{measureRefusal}
-use Rattle.spanning_tree.specs.Plan.{plan, moves}
-use Rattle.optimal_transport.specs.Best.{Best}
+use Rattle.transport_plan.specs.Plan.{plan, moves}
+use Rattle.duality.specs.Best.{Best}
 
 -- "the best call after 7"; its answer tables are those of the parents, the potential and the plan
 unfoldable pub solveRefusal : Graph → List ℕ → List ℕ → List ℕ → List ℤ → List ℕ → ℕ

@@ -55,18 +55,18 @@ two-refused false b k rest h = h
 two-refused true false k rest h = h
 two-refused true true k rest h = absurd (omega arith)
 
-two-passed : (a b : Bool) (rest : ℕ) → check 6 a (check 7 b rest) ≡ 0 → (a ≡ true) × ((b ≡ true) × (rest ≡ 0))
+pub two-passed : (a b : Bool) (rest : ℕ) → check 6 a (check 7 b rest) ≡ 0 → (a ≡ true) × ((b ≡ true) × (rest ≡ 0))
 two-passed a b rest h =
     let p = check-passed 6 a _ (omega arith) h in
     let q = check-passed 7 b _ (omega arith) (p .1) in
     (p .0, (q .0, q .1))
 
-totals-in : (n : ℕ) (mu nu : ℕ → ℕ) → totalsOk n mu nu ≡ true → (sum n mu ≤ 2 ^ 24) × (sum n nu ≤ 2 ^ 24)
+pub totals-in : (n : ℕ) (mu nu : ℕ → ℕ) → totalsOk n mu nu ≡ true → (sum n mu ≤ 2 ^ 24) × (sum n nu ≤ 2 ^ 24)
 unfolding totalsOk
 totals-in n mu nu h =
     (leb-true _ _ (and-l (leb (sum n mu) (2 ^ 24)) _ h), leb-true _ _ (and-r (leb (sum n mu) (2 ^ 24)) _ h))
 
-equal-in : (n : ℕ) (mu nu : ℕ → ℕ) → totalsEqual n mu nu ≡ true → sum n mu ≡ sum n nu
+pub equal-in : (n : ℕ) (mu nu : ℕ → ℕ) → totalsEqual n mu nu ≡ true → sum n mu ≡ sum n nu
 unfolding totalsEqual
 equal-in n mu nu h = eqb-true _ _ h
 
@@ -208,7 +208,7 @@ same-number g w s t h = case≤ (g .n) 64 (λ l. rw (h l)) (λ l. rw (lt-leb (g 
 abbrev pub roomOk : ℕ → ℕ → ℕ → ℕ → Bool
 roomOk n i u m = leb n i && (leb n u && leb (n * n) m)
 
-room-in : (n i u m : ℕ) → roomOk n i u m ≡ true → (n ≤ i) × ((n ≤ u) × (n * n ≤ m))
+pub room-in : (n i u m : ℕ) → roomOk n i u m ≡ true → (n ≤ i) × ((n ≤ u) × (n * n ≤ m))
 room-in n i u m h =
     let r = and-r (leb n i) _ h in
     (leb-true _ _ (and-l (leb n i) _ h), (leb-true _ _ (and-l (leb n u) _ r), leb-true _ _ (and-r (leb n u) _ r)))

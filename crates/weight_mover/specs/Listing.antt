@@ -8,7 +8,7 @@ use lib.Dec.{ltb}
 use lib.IntN.{ℤ}
 use Rattle.arithmetic.specs.Table.{written}
 use Rattle.transport_plan.specs.Plan.{moves}
-use Rattle.optimal_transport.specs.Best.{Best}
+use Rattle.duality.specs.Best.{Best}
 use Rattle.image.specs.Image.{hasTree, vertexCount, amountBefore, amountAfter, rootOf, parentOf}
 use Rattle.weight_mover.specs.Run.{graphOf, imagePlan, weighedCost, answerRefusal}
 

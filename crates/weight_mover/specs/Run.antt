@@ -12,7 +12,7 @@ use Rattle.graph.specs.Checks.{graphRefusal}
 use Rattle.spanning_tree.specs.Checks.{measureRefusal, treeRefusal}
 use Rattle.spanning_tree.specs.Weigh.{potential, treeCost}
 use Rattle.transport_plan.specs.Plan.{plan, moves}
-use Rattle.optimal_transport.specs.Best.{Best}
+use Rattle.duality.specs.Best.{Best}
 use Rattle.image.specs.Image.{hasTree, vertexCount, edgeCount, lowerEnd, upperEnd, edgeLengthOf, amountBefore, amountAfter, rootOf, parentOf}
 use Rattle.image.specs.Read.{imageRefusal}
 use Rattle.weight_mover.specs.Record.{record-bytes, recordSize}

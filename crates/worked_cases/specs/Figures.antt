@@ -63,21 +63,26 @@ agrees eq x silent = true
 agrees eq x (said y) = eq x y
 
 -- the certificate's tree is a spanning tree of that cost, and its potential is 0 at vertex 0, within each edge's length and weighs to it
+abbrev pub potentialOf : Certificate → ℕ → ℤ
+potentialOf c y = getD (c .potentials) y (pos 0)
+
+abbrev pub withinEdge : Graph → Certificate → ℕ → Bool
+withinEdge g c e = leb (natAbs (potentialOf c (at (g .lower) e) -ℤ potentialOf c (at (g .upper) e))) (at (g .lengths) e)
+
+abbrev pub weight : Graph → (ℕ → ℕ) → (ℕ → ℕ) → Certificate → ℤ
+weight g mu nu c = sumℤ (g .n) (λ y. potentialOf c y *ℤ difference mu nu y)
+
 unfoldable pub certifies : Graph → (ℕ → ℕ) → (ℕ → ℕ) → Certificate → Bool
 certifies g mu nu c =
     eqb (treeRefusal g 0 (at (c .parents))) 0 && (eqb (treeCost g 0 (at (c .parents)) mu nu) (c .cost)
-    && (sameℤ (u 0) (pos 0) && (all (edges g) (λ e. leb (natAbs (u (at (g .lower) e) -ℤ u (at (g .upper) e))) (at (g .lengths) e))
-    && sameℤ (sumℤ (g .n) (λ y. u y *ℤ difference mu nu y)) (pos (c .cost)))))
-  where
-    u : ℕ → ℤ
-    u y = getD (c .potentials) y (pos 0)
+    && (sameℤ (potentialOf c 0) (pos 0) && (all (edges g) (withinEdge g c) && sameℤ (weight g mu nu c) (pos (c .cost)))))
 
-abbrev certified : Graph → (ℕ → ℕ) → (ℕ → ℕ) → Said Certificate → Bool
+abbrev pub certified : Graph → (ℕ → ℕ) → (ℕ → ℕ) → Said Certificate → Bool
 certified g mu nu silent = true
 certified g mu nu (said c) = certifies g mu nu c
 
 -- 1 where the tree costs what the certificate does, 0 where it costs more
-abbrev judges : ℕ → Said Certificate → Said ℕ → Bool
+abbrev pub judges : ℕ → Said Certificate → Said ℕ → Bool
 judges cost c silent = true
 judges cost silent (said k) = false
 judges cost (said c) (said k) = (eqb k 1 && eqb cost (c .cost)) || (eqb k 0 && ltb (c .cost) cost)
@@ -96,14 +101,19 @@ holds c =
   where
     g : Graph
     g = c .patch
+
     w : Given
     w = c .lent
+
     r : ℕ
     r = w .root
+
     p : ℕ → ℕ
     p = at (w .parents)
+
     mu : ℕ → ℕ
     mu = at (w .mu)
+
     nu : ℕ → ℕ
     nu = at (w .nu)
 

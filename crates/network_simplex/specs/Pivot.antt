@@ -43,7 +43,7 @@ pub data Place (n : ℕ) (p : ℕ → ℕ) (a c : ℕ) (q : ℕ → ℕ) (y : �
   out : below p n y c ≡ false → below p n (p y) c ≡ false → q y ≡ p y → Place n p a c q y
 
 module _ {n r : ℕ} {p : ℕ → ℕ} {a b c : ℕ} {q : ℕ → ℕ} (v : Pivot n r p a b c q) where
-  root-out : below p n r c ≡ false
+  pub root-out : below p n r c ≡ false
   root-out = at-root (v .tree) c ∙ ne-eqb r c (v .c-root)
 
   self-a : below p n a a ≡ true
@@ -95,7 +95,7 @@ module _ {n r : ℕ} {p : ℕ → ℕ} {a b c : ℕ} {q : ℕ → ℕ} (v : Pivo
         | out e f g ↦ rw (g, e, f) (omega (arith, depth-step (v .tree) y l d))
       ]
 
-  q-into : (y : ℕ) → y < n → q y < n
+  pub q-into : (y : ℕ) → y < n → q y < n
   q-into y l =
       elim (place y l) [
         | end e ↦ rw (e, v .hung) (v .b-low)
@@ -117,7 +117,7 @@ module _ {n r : ℕ} {p : ℕ → ℕ} {a b c : ℕ} {q : ℕ → ℕ} (v : Pivo
   differ-a : (x y : ℕ) → below p n a x ≡ true → below p n a y ≡ false → eqb y x ≡ false
   differ-a x y e f = ne-eqb y x (λ h. apart (λ u. below p n a u) e f (sym h))
 
-  a-step : (y : ℕ) → y < n → (y ≡ r → ⊥) → below p n y c ≡ eqb y a || below p n (q y) c
+  pub a-step : (y : ℕ) → y < n → (y ≡ r → ⊥) → below p n y c ≡ eqb y a || below p n (q y) c
   a-step y l d =
       elim (place y l) [
         | end e ↦ cc (eqb-self a)

@@ -12,7 +12,7 @@ use Rattle.rooted_tree.specs.Chain.{below}
 use Rattle.rooted_tree.specs.Rooted.{Rooted}
 use Rattle.rooted_tree.specs.Subtotal.{subtotal}
 use Rattle.graph.specs.Graph.{Graph, joined, edgeLength}
-use Rattle.optimal_transport.specs.PivotCost.{Potential}
+use Rattle.network_simplex.specs.PivotCost.{Potential}
 
 -- what the search asks of the graph and of the masses m and v that it balances
 pub record Network (g : Graph) (m v : ℕ → ℕ) : Type 0 where

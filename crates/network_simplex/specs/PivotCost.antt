@@ -16,8 +16,8 @@ use Rattle.rooted_tree.specs.Chain.{below}
 use Rattle.rooted_tree.specs.Rooted.{Rooted, trans-b, out-b, comparable, all-b, not-root}
 use Rattle.rooted_tree.specs.Subtotal.{subtotal}
 use Rattle.rooted_tree.specs.Flow.{flowCost, flow-swap, flow-longer, tree-strong, height-unique, height-mono}
-use Rattle.optimal_transport.specs.PathReversal.{CanPivot}
-use Rattle.optimal_transport.specs.Pivot.{Pivot, end, path, side, out, place, new-tree, total-a, total-side, total-path, total-out}
+use Rattle.network_simplex.specs.PathReversal.{CanPivot}
+use Rattle.network_simplex.specs.Pivot.{Pivot, end, path, side, out, place, new-tree, total-a, total-side, total-path, total-out}
 
 -- U is the potential of the tree for the masses m and v, and no subtree is balanced
 pub record Potential (n r : ℕ) (p : ℕ → ℕ) (len : ℕ → ℕ → ℕ) (m v U : ℕ → ℕ) : Type 0 where
@@ -141,7 +141,7 @@ module _ {n r : ℕ} {p : ℕ → ℕ} {a b c : ℕ} {q : ℕ → ℕ} (w : Pivo
 
 -- ---- the other side: the masses change places, and the potential its sign
 
-mirrored : {n r : ℕ} {p : ℕ → ℕ} {len : ℕ → ℕ → ℕ} {m v U : ℕ → ℕ} → Rooted n r p → Potential n r p len m v U
+pub mirrored : {n r : ℕ} {p : ℕ → ℕ} {len : ℕ → ℕ → ℕ} {m v U : ℕ → ℕ} → Rooted n r p → Potential n r p len m v U
     → Potential n r p len v m (λ x. sum n U - U x)
 mirrored {n} {r} {p} {len} {m} {v} {U} t u = record {
   same = sym (u .same);

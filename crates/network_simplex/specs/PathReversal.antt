@@ -10,7 +10,7 @@ use Rattle.arithmetic.specs.Bools.{case≡, is-false}
 use Rattle.arithmetic.specs.Table.{at}
 use Rattle.rooted_tree.specs.Chain.{below, depth}
 use Rattle.rooted_tree.specs.Rooted.{Rooted, refl-b, down-b, parent-b, trans-b, out-b, comparable, antisym, not-root, depth-step, parent-out}
-use Rattle.optimal_transport.specs.Pivot.{Pivot, apart}
+use Rattle.network_simplex.specs.Pivot.{Pivot, apart}
 
 module _ {n r : ℕ} {p : ℕ → ℕ} (t : Rooted n r p) where
   pub start : (a b : ℕ) (q : ℕ → ℕ) → a < n → b < n → (r ≡ a → ⊥) → below p n b a ≡ false
@@ -123,6 +123,9 @@ module _ {n : ℕ} {l : List ℕ} {r a b c : ℕ} (can : CanPivot n l r a b c) w
     reversing-kept (begun e f g) = cc
     reversing-kept (going w f) =
         rw f (w .pivot .out (at l last) (can .tree .into last (w .pivot .c-low)) (above-out (w .pivot)))
+
+    pub reversing-next : Reversing n l r a b c k up last → at k up < n
+    reversing-next g = rw (reversing-kept g) (can .tree .into up (reversing-low g))
 
     reversing-in : Reversing n l r a b c k up last → (last ≡ c → ⊥) → below (at l) n up c ≡ true
     reversing-in (begun e f g) d = rw f (can .a-in)

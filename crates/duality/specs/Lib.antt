@@ -1,0 +1,3 @@
+pub mod Best
+pub mod PlanDuality
+pub mod BestLaws

@@ -1,0 +1,14 @@
+use native.Mathlib.Omega.{arith}
+use lib.Bits.{and-mask}
+use Prim.Native.Nat.{_/_, _^_}
+use Rattle.network_simplex.proofs.leaving.in_subtree.Statement.{statement}
+use Rattle.network_simplex.proofs.leaving.in_subtree.Tie as tie
+
+shr-result : tie.Need-shr-result
+shr-result c = omega arith
+
+returns : tie.Need-returns
+returns c = rw (and-mask (c .args .mask / 2 ^ c .args .y) 1)
+
+pub in-subtree-spec : {M : Type 1} → statement M
+in-subtree-spec = tie.close (tie.spec shr-result returns)

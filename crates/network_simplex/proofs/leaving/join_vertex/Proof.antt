@@ -1,0 +1,61 @@
+use native.Mathlib.Omega.{arith}
+use mathlib.Core.Path.{sym, _∙_}
+use borrow.Author.Tests.{not-true, not-false}
+use Rattle.arithmetic.specs.Table.{at}
+use Rattle.rooted_tree.specs.Chain.{depth}
+use Rattle.network_simplex.specs.Join.{JoinFrom, join-none, join-more, join-less, join-end}
+use Rattle.network_simplex.proofs.leaving.join_vertex.Statement.{statement}
+use Rattle.network_simplex.proofs.leaving.join_vertex.Tie as tie
+
+abbrev Inv-loop : tie.InvT-loop
+Inv-loop n parents masks s t x₀ x = JoinFrom n (at parents) s t x
+
+abbrev μ-loop : tie.MeasureT-loop
+μ-loop n parents masks s t x₀ x = depth (at parents) 0 n x
+
+loop-holds : tie.Need-loop-holds Inv-loop μ-loop
+loop-holds c = join-none (c .before .before .pre)
+
+mul-in-subtree : tie.Need-mul-in-subtree Inv-loop μ-loop
+mul-in-subtree c = omega arith
+
+shared-slice-read-in-subtree : tie.Need-shared-slice-read-in-subtree Inv-loop μ-loop
+shared-slice-read-in-subtree c = omega arith
+
+in-subtree-requires : tie.Need-in-subtree-requires Inv-loop μ-loop
+in-subtree-requires c κs = omega arith
+
+mul-x : tie.Need-mul-x Inv-loop μ-loop
+mul-x c = omega arith
+
+shared-slice-read-x : tie.Need-shared-slice-read-x Inv-loop μ-loop
+shared-slice-read-x c = omega arith
+
+cast-x : tie.Need-cast-x Inv-loop μ-loop
+cast-x c = omega (arith, c .shared-slice-known4 .given (c .before .before .before .before .loop .x))
+
+loop-less : tie.Need-loop-less Inv-loop μ-loop
+loop-less c = join-less (c .before .before .before .before .before .before .before .pre) _ (c .before .before .before .before .loop .inv) (sym (c .before .before .in-subtree .ensures) ∙ not-true _ (c .before .if1 .taken))
+
+loop-again : tie.Need-loop-again Inv-loop μ-loop
+loop-again c = join-more (c .before .before .before .before .before .before .before .pre) _ (c .before .before .before .before .loop .inv) (sym (c .before .before .in-subtree .ensures) ∙ not-true _ (c .before .if1 .taken))
+
+returns : tie.Need-returns Inv-loop μ-loop
+returns c = join-end (c .before .before .before .before .before .before .pre) _ (c .before .before .before .loop .inv) (sym (c .before .in-subtree .ensures) ∙ not-false _ (c .if1 .left))
+
+pub join-vertex-spec : {M : Type 1} → statement M
+join-vertex-spec =
+    tie.close
+    (tie.spec
+    Inv-loop
+    μ-loop
+    loop-holds
+    mul-in-subtree
+    shared-slice-read-in-subtree
+    in-subtree-requires
+    mul-x
+    shared-slice-read-x
+    cast-x
+    loop-less
+    loop-again
+    returns)

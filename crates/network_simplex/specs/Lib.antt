@@ -1,0 +1,16 @@
+pub mod Pivot
+pub mod PathReversal
+pub mod PivotCost
+pub mod Perturbed
+pub mod Basis
+pub mod Entering
+pub mod Join
+pub mod Leaving
+pub mod TreePotential
+pub mod PathWalk
+pub mod PivotTables
+pub mod PivotTotals
+pub mod PivotPotential
+pub mod PivotBasis
+pub mod FirstBasis
+pub mod Search

@@ -1,0 +1,303 @@
+-- The search: the first basis is improved by pivots until the potential violates no edge; what is left is a certificate.
+use Prim.Native.Nat.{ℕ, _+_, _*_, _^_, _≤_, _<_}
+use mathlib.Core.Path.{_≡_, refl, sym, ap, _∙_}
+use mathlib.Core.Bool.{Bool, true, false, cond}
+use mathlib.Core.List.{List}
+use native.Mathlib.Omega.{arith}
+use lib.Dec.{ltb}
+use lib.ListN.{length}
+use borrow.Author.Tests.{ne-eqb, lt-ltb, le-ltb}
+use Rattle.arithmetic.specs.Bools.{case≡, case<}
+use Rattle.arithmetic.specs.Sum.{sum, sum-ext}
+use Rattle.arithmetic.specs.Product.{gap}
+use Rattle.arithmetic.specs.Table.{at}
+use Rattle.rooted_tree.specs.Rooted.{depth-lt}
+use Rattle.rooted_tree.specs.Flow.{flowCost, tree-strong, agrees-near}
+use Rattle.graph.specs.Graph.{Graph, edges, joined, edgeLength}
+use Rattle.graph.specs.Accepted.{Accepted, lists-in}
+use Rattle.graph.specs.EdgeLaws.{edge-up, edge-down, edge-order, edge-joined, edge-size}
+use Rattle.spanning_tree.specs.Weigh.{toParent}
+use Rattle.spanning_tree.specs.WeighLaws.{costFrom, treeCost-flow}
+use Rattle.duality.specs.BestLaws.{Certificate}
+use Rattle.network_simplex.specs.Perturbed.{supplyOf, demandOf, true-agrees}
+use Rattle.network_simplex.specs.Basis.{Network, Basis, offset}
+use Rattle.network_simplex.specs.FirstBasis.{CanStart, vertices, network-of}
+use Rattle.network_simplex.specs.Entering.{CanEnter, Entering}
+use Rattle.network_simplex.specs.Join.{Join, CanJoin, can-join}
+use Rattle.network_simplex.specs.Leaving.{CanLeave, Leaves, can-leave, leaving-s, leaving-t}
+use Rattle.network_simplex.specs.PivotPotential.{near-root}
+use Rattle.network_simplex.specs.PivotBasis.{CanPivotBasis, Joins, CheaperBasis}
+
+-- ---- one step
+
+-- the edge between s and t can enter: the potential falls along it by more than its length
+pub record Falls (g : Graph) (s t long : ℕ) (potential : List ℕ) : Type 0 where
+  pub s-low : s < g .n
+  pub t-low : t < g .n
+  pub edge : joined g s t ≡ true
+  pub length-is : long ≡ edgeLength g s t
+  pub falls : at potential t + long < at potential s
+
+-- a basis of the masses m and v, and an edge that can enter
+pub record CanExchange (g : Graph) (m v : ℕ → ℕ) (n s t long : ℕ) (parents above supply demand masks potential : List ℕ) : Type 0 where
+  pub network : Network g m v
+  pub basis : Basis g m v parents above supply demand masks potential
+  pub size : g .n ≡ n
+  pub enters : Falls g s t long potential
+
+-- the same of some graph and some masses
+pub record ExchangeInput (n s t long : ℕ) (parents above supply demand masks potential : List ℕ) : Type 0 where
+  pub g : Graph
+  pub m : ℕ → ℕ
+  pub v : ℕ → ℕ
+  pub can : CanExchange g m v n s t long parents above supply demand masks potential
+
+-- whatever graph and masses the tables are a basis of, they have become a cheaper one
+abbrev pub Exchanged : (n s t long : ℕ) → (parents above supply demand masks potential : List ℕ) → (parents' above' supply' demand' masks' potential' : List ℕ) → Type 0
+Exchanged n s t long parents above supply demand masks potential parents' above' supply' demand' masks' potential' =
+    (g : Graph) (m v : ℕ → ℕ) → CanExchange g m v n s t long parents above supply demand masks potential
+    → CheaperBasis g m v parents parents' above' supply' demand' masks' potential'
+
+module _ {g : Graph} {m v : ℕ → ℕ} {n s t long : ℕ} {parents above supply demand masks potential : List ℕ}
+    (can : CanExchange g m v n s t long parents above supply demand masks potential) where
+  pub exchange-join : CanJoin n parents masks s t
+  exchange-join = rw (can .size) at (can-join (can .basis) (can .network) (can .enters .s-low) (can .enters .t-low))
+
+  pub exchange-leave : {join : ℕ} → Join n (at parents) s t join → CanLeave n parents supply demand s t join
+  exchange-leave j =
+      rw (can .size) at (can-leave (can .basis) (can .network) (can .enters .s-low) (can .enters .t-low)
+      (omega (arith, can .enters .falls)) (rw (← (can .size)) at j))
+
+  on-s : {c : ℕ} → Leaves n (at parents) (at supply) (at demand) s t c false
+      → CanPivotBasis g m v n s t c long false parents above supply demand masks potential
+  on-s l = record {
+    network = can .network;
+    basis = can .basis;
+    size = can .size;
+    a-low = rw (can .size) at (can .enters .s-low);
+    b-low = rw (can .size) at (can .enters .t-low);
+    edge = can .enters .edge;
+    length-is = can .enters .length-is;
+    violates = record {
+      exceeds = can .enters .falls;
+      leaves = rw (can .size) at (leaving-s (can .basis) (rw (← (can .size)) at (l .on-s refl)));
+    };
+  }
+
+  on-t : {c : ℕ} → Leaves n (at parents) (at supply) (at demand) s t c true
+      → CanPivotBasis g m v n t s c long true parents above supply demand masks potential
+  on-t l = record {
+    network = can .network;
+    basis = can .basis;
+    size = can .size;
+    a-low = rw (can .size) at (can .enters .t-low);
+    b-low = rw (can .size) at (can .enters .s-low);
+    edge = can .network .joined-back s t (can .enters .edge);
+    length-is = can .enters .length-is ∙ can .network .symmetric s t;
+    violates = record {
+      exceeds = can .enters .falls;
+      leaves = rw (can .size) at (leaving-t (can .basis) (rw (← (can .size)) at (l .on-t refl)));
+    };
+  }
+
+  -- the subtree of c is hung by s on t, or, where its potential is to rise, by t on s
+  pub exchange-pivots : (rises : Bool) {a b c : ℕ} → Leaves n (at parents) (at supply) (at demand) s t c rises
+      → a ≡ cond rises t s → b ≡ cond rises s t
+      → CanPivotBasis g m v n a b c long rises parents above supply demand masks potential
+  exchange-pivots false l e f = rw (e, f) (on-s l)
+  exchange-pivots true l e f = rw (e, f) (on-t l)
+
+pub exchange-joins : (rises : Bool) {n : ℕ} {parents : List ℕ} {s t a b w : ℕ} → Join n (at parents) s t w
+    → a ≡ cond rises t s → b ≡ cond rises s t → Joins n parents a b w
+exchange-joins false j e f = rw (e, f) (record { low = j .low; over-a = j .above-s; over-b = j .above-t })
+exchange-joins true j e f = rw (e, f) (record { low = j .low; over-a = j .above-t; over-b = j .above-s })
+
+-- ---- the loop
+
+-- a graph that passed the checks, and a basis of some masses on it
+pub record CanSearch (g : Graph) (parents above supply demand masks potential : List ℕ) : Type 0 where
+  pub accepted : Accepted g
+  pub m : ℕ → ℕ
+  pub v : ℕ → ℕ
+  pub network : Network g m v
+  pub basis : Basis g m v parents above supply demand masks potential
+
+-- e is an edge that the potential violates
+pub record CanImprove (g : Graph) (e : ℕ) (parents above supply demand masks potential : List ℕ) : Type 0 where
+  pub state : CanSearch g parents above supply demand masks potential
+  pub here : e < edges g
+  pub violates : at (g .lengths) e < gap (at potential (at (g .lower) e)) (at potential (at (g .upper) e))
+
+-- whatever masses the tables are a basis of, they have become a cheaper one
+abbrev pub Improved : Graph → (parents above supply demand masks potential : List ℕ) → (parents' above' supply' demand' masks' potential' : List ℕ) → Type 0
+Improved g parents above supply demand masks potential parents' above' supply' demand' masks' potential' =
+    (m v : ℕ → ℕ) → Network g m v → Basis g m v parents above supply demand masks potential → CheaperBasis g m v parents parents' above' supply' demand' masks' potential'
+
+-- a basis whose potential violates no edge
+pub record Optimal (g : Graph) (m v : ℕ → ℕ) (parents above supply demand masks potential : List ℕ) : Type 0 where
+  pub basis : Basis g m v parents above supply demand masks potential
+  pub within : (e : ℕ) → e < edges g → gap (at potential (at (g .lower) e)) (at potential (at (g .upper) e)) ≤ at (g .lengths) e
+
+-- whatever masses the tables are a basis of, they have become an optimal one
+abbrev pub Optimized : Graph → (parents above supply demand masks potential : List ℕ) → (parents' above' supply' demand' masks' potential' : List ℕ) → Type 0
+Optimized g parents above supply demand masks potential parents' above' supply' demand' masks' potential' =
+    (m v : ℕ → ℕ) → Network g m v → Basis g m v parents above supply demand masks potential → Optimal g m v parents' above' supply' demand' masks' potential'
+
+module _ {g : Graph} {e : ℕ} {parents above supply demand masks potential : List ℕ}
+    (can : CanImprove g e parents above supply demand masks potential) where
+  pub lists : (length (g .upper) ≡ edges g) × (length (g .lengths) ≡ edges g)
+  lists = lists-in g (can .state .accepted .lists) .1
+
+  pub ends-low : (at (g .lower) e < g .n) × (at (g .upper) e < g .n)
+  ends-low = let o = edge-order g (can .state .accepted .edges) e (can .here) in (omega arith, omega arith)
+
+  -- the edge, from the end with the higher potential
+  down : at potential (at (g .upper) e) < at potential (at (g .lower) e)
+      → Falls g (at (g .lower) e) (at (g .upper) e) (at (g .lengths) e) potential
+  down h = record {
+    s-low = ends-low .0;
+    t-low = ends-low .1;
+    edge = edge-joined g (edge-up g e (can .here));
+    length-is = sym (edge-size g (can .state .accepted .edges) (edge-up g e (can .here)));
+    falls = omega (arith, can .violates);
+  }
+
+  up : at potential (at (g .lower) e) ≤ at potential (at (g .upper) e)
+      → Falls g (at (g .upper) e) (at (g .lower) e) (at (g .lengths) e) potential
+  up h = record {
+    s-low = ends-low .1;
+    t-low = ends-low .0;
+    edge = edge-joined g (edge-down g e (can .here));
+    length-is = sym (edge-size g (can .state .accepted .edges) (edge-down g e (can .here)));
+    falls = omega (arith, can .violates);
+  }
+
+  pub improve-falls : {s t : ℕ}
+      → s ≡ cond (ltb (at potential (at (g .upper) e)) (at potential (at (g .lower) e))) (at (g .lower) e) (at (g .upper) e)
+      → t ≡ cond (ltb (at potential (at (g .upper) e)) (at potential (at (g .lower) e))) (at (g .upper) e) (at (g .lower) e)
+      → Falls g s t (at (g .lengths) e) potential
+  improve-falls h k =
+      case< (at potential (at (g .upper) e)) (at potential (at (g .lower) e))
+      (λ l. let q = lt-ltb _ _ l in rw (h, k, q) (down l))
+      (λ l. let q = le-ltb _ _ l in rw (h, k, q) (up l))
+
+  module _ {s t long : ℕ} (enters : Falls g s t long potential) where
+    pub exchange-input : ExchangeInput (g .n) s t long parents above supply demand masks potential
+    exchange-input = record {
+      g = g;
+      m = can .state .m;
+      v = can .state .v;
+      can = record { network = can .state .network; basis = can .state .basis; size = refl; enters = enters };
+    }
+
+    pub improved : {parents' above' supply' demand' masks' potential' : List ℕ}
+        → Exchanged (g .n) s t long parents above supply demand masks potential parents' above' supply' demand' masks' potential'
+        → Improved g parents above supply demand masks potential parents' above' supply' demand' masks' potential'
+    improved exchanged m v net basis = exchanged g m v (record { network = net; basis = basis; size = refl; enters = enters })
+
+-- whatever masses the tables are a basis of, they still are one
+abbrev pub Kept : Graph → (parents above supply demand masks potential : List ℕ) → (parents' above' supply' demand' masks' potential' : List ℕ) → Type 0
+Kept g parents above supply demand masks potential parents' above' supply' demand' masks' potential' =
+    (m v : ℕ → ℕ) → Network g m v → Basis g m v parents above supply demand masks potential → Basis g m v parents' above' supply' demand' masks' potential'
+
+-- the cost, from the tables
+basis-cost : {g : Graph} {m v : ℕ → ℕ} {parents above supply demand masks potential : List ℕ} → Basis g m v parents above supply demand masks potential
+    → costFrom (g .n) 0 (at above) (at supply) (at demand) ≡ flowCost (g .n) 0 (at parents) (λ x. edgeLength g x (at parents x)) m v
+unfolding flowCost
+basis-cost {g} basis =
+    sum-ext (g .n) _ _ (λ x l. case≡ x 0
+    (λ e. rw e)
+    (λ d. rw (ne-eqb x 0 d, basis .above-is x l d, basis .supply-is x l, basis .demand-is x l)))
+
+module _ {g : Graph} {parents₀ above₀ supply₀ demand₀ masks₀ potential₀ : List ℕ} (can : CanSearch g parents₀ above₀ supply₀ demand₀ masks₀ potential₀)
+    {parents above supply demand masks potential : List ℕ} (kept : Kept g parents₀ above₀ supply₀ demand₀ masks₀ potential₀ parents above supply demand masks potential) where
+  pub search-basis : Basis g (can .m) (can .v) parents above supply demand masks potential
+  search-basis = kept (can .m) (can .v) (can .network) (can .basis)
+
+  pub search-enters : CanEnter (g .lower) (g .upper) (g .lengths) potential
+  search-enters = record {
+    same-b = lists-in g (can .accepted .lists) .1 .0;
+    same-lengths = lists-in g (can .accepted .lists) .1 .1;
+    low-a = λ e l. omega (arith, edge-order g (can .accepted .edges) e l, search-basis .potential-size, can .network .few);
+    low-b = λ e l. omega (arith, edge-order g (can .accepted .edges) e l, search-basis .potential-size, can .network .few);
+  }
+
+  pub search-improves : {e : ℕ} → Entering (g .lower) (g .upper) (g .lengths) potential e → e < edges g
+      → CanImprove g e parents above supply demand masks potential
+  search-improves enters l = record {
+    state = record { accepted = can .accepted; m = can .m; v = can .v; network = can .network; basis = search-basis };
+    here = l;
+    violates = enters .some (λ e. omega arith) .1;
+  }
+
+  module _ {parents' above' supply' demand' masks' potential' : List ℕ}
+      (better : Improved g parents above supply demand masks potential parents' above' supply' demand' masks' potential') where
+    pub search-keeps : Kept g parents₀ above₀ supply₀ demand₀ masks₀ potential₀ parents' above' supply' demand' masks' potential'
+    search-keeps m v net b = better m v net (kept m v net b) .basis
+
+    pub search-less : costFrom (g .n) 0 (at above') (at supply') (at demand') < costFrom (g .n) 0 (at above) (at supply) (at demand)
+    search-less =
+        let c = better (can .m) (can .v) (can .network) search-basis in
+        omega (arith, basis-cost search-basis, basis-cost (c .basis), c .cheaper)
+
+  pub search-ends : {e : ℕ} → Entering (g .lower) (g .upper) (g .lengths) potential e → edges g ≤ e
+      → Optimized g parents₀ above₀ supply₀ demand₀ masks₀ potential₀ parents above supply demand masks potential
+  search-ends {e} enters l m v net b = record {
+    basis = kept m v net b;
+    within = case≡ e (edges g) (enters .none) (λ d. absurd (omega (arith, enters .some d)));
+  }
+
+-- ---- the certificate
+
+-- a best tree with root 0 and its potential, in tables of 64 places
+pub record BestTree (g : Graph) (mu nu : ℕ → ℕ) (parents potential : List ℕ) : Type 0 where
+  pub parents-size : length parents ≡ 64
+  pub potential-size : length potential ≡ 64
+  pub certificate : Certificate g mu nu (at parents) (at potential)
+  pub into : (x : ℕ) → x < g .n → at parents x < g .n
+  pub grounded : at potential 0 ≡ offset
+  pub small : (x : ℕ) → x < g .n → at potential x < 2 ^ 24
+
+module _ {g : Graph} {mu nu parents₀ edge : List ℕ} (can : CanStart g mu nu parents₀ edge)
+    {parents above supply demand masks potential : List ℕ}
+    (best : Optimal g (supplyOf (at mu)) (demandOf (g .n) (at nu)) parents above supply demand masks potential) where
+  certificate-of : Certificate g (at mu) (at nu) (at parents) (at potential)
+  certificate-of = record {
+    spanning = record {
+      root = best .basis .tree .root;
+      stay = best .basis .tree .stay;
+      edge = best .basis .edge;
+      chain = λ x l. (g .n, best .basis .tree .up x l);
+    };
+    within = best .within;
+    weighs =
+        tree-strong (best .basis .tree) (at potential) (toParent g (at parents)) (at mu) (at nu) (can .same)
+        (λ x l d. true-agrees (best .basis .tree) (vertices can .1) x l d (at mu) (at nu) _ _ _ (best .basis .balances .agrees x l d))
+        ∙ ap (λ (c : ℕ). sum (g .n) (λ y. at potential y * at nu y) + c) (sym (treeCost-flow g 0 (at parents) (at mu) (at nu)));
+  }
+
+  -- a potential is no further from the offset than 63 edges are long
+  potential-small : (x : ℕ) → x < g .n → at potential x < 2 ^ 24
+  potential-small x l =
+      omega (
+        arith,
+        near-root (best .basis .tree) (at potential)
+            (λ y k d.
+            let near = agrees-near _ _ _ _ _ (best .basis .balances .agrees y k d) in
+            let s = network-of can .short y (at parents y) in
+            (omega arith, omega arith))
+            x l,
+        depth-lt (best .basis .tree) x l,
+        best .basis .grounded,
+        vertices can,
+      )
+
+  pub best-tree : BestTree g (at mu) (at nu) parents potential
+  best-tree = record {
+    parents-size = best .basis .parents-size;
+    potential-size = best .basis .potential-size;
+    certificate = certificate-of;
+    into = best .basis .tree .into;
+    grounded = best .basis .grounded;
+    small = potential-small;
+  }

@@ -1,0 +1,7 @@
+// The search for a best spanning tree: network simplex on perturbed masses.
+mod entering;
+mod first_basis;
+mod leaving;
+mod pivot;
+mod potential;
+pub mod search;

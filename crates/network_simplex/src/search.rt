@@ -1,0 +1,182 @@
+// The search for a best tree: network simplex.
+ghost use mathlib.Core.Path.{_≡_};
+ghost use mathlib.Core.Bool.{cond};
+ghost use lib.ListN.{length};
+ghost use Rattle.arithmetic.specs.Table.{at};
+ghost use Rattle.graph.specs.Graph.{graph};
+ghost use Rattle.network_simplex.specs.FirstBasis.{CanStart};
+ghost use Rattle.network_simplex.specs.Search.{ExchangeInput, Exchanged, CanImprove, Improved, CanSearch, Optimized, BestTree};
+use crate::entering;
+use crate::first_basis;
+use crate::leaving;
+use crate::pivot;
+
+// x where the test holds, else y.
+fn choose(test: bool, x: usize, y: usize) -> usize
+    ensures { λ r. ⌜ r ≡ cond test x y ⌝ }
+{
+    if test { x } else { y }
+}
+
+// The edge from s to t enters, along which the potential falls by more than its length, and another edge leaves.
+fn exchange(
+    n: usize,
+    s: usize,
+    t: usize,
+    length: u32,
+    parents: &mut [u32],
+    above: &mut [u32],
+    supply: &mut [u64],
+    demand: &mut [u64],
+    masks: &mut [u64],
+    potential: &mut [u32],
+)
+    requires { ⌜ ExchangeInput n s t length (now parents) (now above) (now supply) (now demand) (now masks) (now potential) ⌝ }
+    ensures { λ _.
+        ⌜ Exchanged n s t length (now (parents .entry)) (now (above .entry)) (now (supply .entry)) (now (demand .entry)) (now (masks .entry)) (now (potential .entry))
+        (now (parents .exit)) (now (above .exit)) (now (supply .exit)) (now (demand .exit)) (now (masks .exit)) (now (potential .exit)) ⌝ }
+{
+    let join = leaving::join_vertex(n, parents, masks, s, t);
+    let leaves = leaving::leaving_vertex(n, parents, supply, demand, s, t, join);
+    let rises = leaves.rises;
+    let a = choose(rises, t, s);
+    let b = choose(rises, s, t);
+    pivot::pivot(
+        n,
+        a,
+        b,
+        leaves.vertex,
+        join,
+        length,
+        rises,
+        parents,
+        above,
+        supply,
+        demand,
+        masks,
+        potential,
+    );
+}
+
+// One step: edge e, which the potential violates, enters from its end with the higher potential.
+fn improve(
+    n: usize,
+    a: &[u32],
+    b: &[u32],
+    lengths: &[u32],
+    e: usize,
+    parents: &mut [u32],
+    above: &mut [u32],
+    supply: &mut [u64],
+    demand: &mut [u64],
+    masks: &mut [u64],
+    potential: &mut [u32],
+)
+    requires { ⌜ CanImprove (graph n (now a) (now b) (now lengths)) e (now parents) (now above) (now supply) (now demand) (now masks) (now potential) ⌝ }
+    ensures { λ _.
+        ⌜ Improved (graph n (now (a .entry)) (now (b .entry)) (now (lengths .entry)))
+        (now (parents .entry)) (now (above .entry)) (now (supply .entry)) (now (demand .entry)) (now (masks .entry)) (now (potential .entry))
+        (now (parents .exit)) (now (above .exit)) (now (supply .exit)) (now (demand .exit)) (now (masks .exit)) (now (potential .exit)) ⌝ }
+{
+    let x = a[e] as usize;
+    let y = b[e] as usize;
+    let falls = potential[y] < potential[x];
+    let s = choose(falls, x, y);
+    let t = choose(falls, y, x);
+    exchange(
+        n,
+        s,
+        t,
+        lengths[e],
+        parents,
+        above,
+        supply,
+        demand,
+        masks,
+        potential,
+    );
+}
+
+// Improves the basis until the potential violates no edge.
+fn search(
+    n: usize,
+    a: &[u32],
+    b: &[u32],
+    lengths: &[u32],
+    parents: &mut [u32],
+    above: &mut [u32],
+    supply: &mut [u64],
+    demand: &mut [u64],
+    masks: &mut [u64],
+    potential: &mut [u32],
+)
+    requires { ⌜ CanSearch (graph n (now a) (now b) (now lengths)) (now parents) (now above) (now supply) (now demand) (now masks) (now potential) ⌝ }
+    ensures { λ _.
+        ⌜ Optimized (graph n (now (a .entry)) (now (b .entry)) (now (lengths .entry)))
+        (now (parents .entry)) (now (above .entry)) (now (supply .entry)) (now (demand .entry)) (now (masks .entry)) (now (potential .entry))
+        (now (parents .exit)) (now (above .exit)) (now (supply .exit)) (now (demand .exit)) (now (masks .exit)) (now (potential .exit)) ⌝ }
+{
+    let mut e = entering::entering_edge(a, b, lengths, potential);
+    while e < a.len() {
+        improve(
+            n,
+            a,
+            b,
+            lengths,
+            e,
+            parents,
+            above,
+            supply,
+            demand,
+            masks,
+            potential,
+        );
+        e = entering::entering_edge(a, b, lengths, potential);
+    }
+}
+
+// A best tree and its potential, from a spanning tree given by the parents and the edges to them.
+pub fn best_tree(
+    n: usize,
+    a: &[u32],
+    b: &[u32],
+    lengths: &[u32],
+    mu: &[u64],
+    nu: &[u64],
+    parents: &mut [u32],
+    edge: &[u32],
+    potential: &mut [u32],
+)
+    requires { ⌜ CanStart (graph n (now a) (now b) (now lengths)) (now mu) (now nu) (now parents) (now edge) × (length (now potential) ≡ 64) ⌝ }
+    ensures { λ _. ⌜ BestTree (graph n (now (a .entry)) (now (b .entry)) (now (lengths .entry))) (at (now (mu .entry))) (at (now (nu .entry))) (now (parents .exit)) (now (potential .exit)) ⌝ }
+{
+    let mut above = [0u32; 64];
+    let mut supply = [0u64; 64];
+    let mut demand = [0u64; 64];
+    let mut masks = [0u64; 64];
+    first_basis::first_basis(
+        n,
+        lengths,
+        mu,
+        nu,
+        parents,
+        edge,
+        &mut above,
+        &mut supply,
+        &mut demand,
+        &mut masks,
+        potential,
+    );
+    search(
+        n,
+        a,
+        b,
+        lengths,
+        parents,
+        &mut above,
+        &mut supply,
+        &mut demand,
+        &mut masks,
+        potential,
+    );
+}

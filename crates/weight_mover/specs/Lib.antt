@@ -4,3 +4,7 @@ pub mod Listing
 pub mod Placed
 pub mod RecordLaws
 pub mod ListingLaws
+pub mod Agree
+pub mod Answer
+pub mod AnswerLaws
+pub mod RunLaws

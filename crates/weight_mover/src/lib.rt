@@ -1,2 +1,33 @@
-mod listing;
-mod record;
+// The exported entry, which answers an image by a record, and the program's text.
+mod answer; // read, and weighed or solved
+pub mod listing; // the program's text
+mod record; // the host record
+
+ghost use Rattle.weight_mover.specs.Run.{Ran};
+use answer::answer_image;
+use record::write_record;
+
+// Answers an image by its record: 0, or a refusal number and the buffer as it came.
+#[no_mangle]
+pub extern "C" fn mover_run(image: &[u8], buffer: &mut [u8]) -> u32
+    ensures { λ r. ⌜ Ran (now (image .entry)) (now (buffer .entry)) r (now (buffer .exit)) ⌝ }
+{
+    let mut parents = [0u32; 64];
+    let mut potential = [0i32; 64];
+    let mut plan = [0u32; 4096];
+    let found = answer_image(image, buffer.len(), &mut parents, &mut potential, &mut plan);
+    if found.refusal != 0 {
+        return found.refusal;
+    }
+    write_record(
+        found.n,
+        found.cost,
+        found.moves,
+        found.root as u32,
+        &parents,
+        &potential,
+        &plan,
+        buffer,
+    );
+    0
+}

@@ -6,6 +6,8 @@ ghost use lib.ListN.{length};
 ghost use Rattle.arithmetic.specs.Table.{cell, written};
 ghost use Rattle.weight_mover.specs.Listing.{decimal, line, costWord, movesWord, bestWord, refusedWord, entryLine, rowLines, planLines};
 ghost use Rattle.weight_mover.specs.Placed.{Wrote};
+ghost use Rattle.weight_mover.specs.Answer.{Listed};
+use super::answer::answer_image;
 
 // One byte.
 fn write_byte(b: u8, from: usize, out: &mut [u8]) -> usize
@@ -129,4 +131,23 @@ pub fn write_refused(k: u32, out: &mut [u8]) -> usize
     ensures size { λ r. ⌜ r ≡ length (line refusedWord k) ⌝ }
 {
     write_line(b"refused", k as u64, 0, out)
+}
+
+// Writes the text that is printed for an image, and returns how long it is.
+pub fn write_listing(image: &[u8], out: &mut [u8]) -> usize
+    requires { ⌜ 131072 ≤ length (now out) ⌝ }
+    ensures { λ r. ⌜ Listed (now (image .entry)) (now (out .entry)) r (now (out .exit)) ⌝ }
+{
+    let mut parents = [0u32; 64];
+    let mut potential = [0i32; 64];
+    let mut plan = [0u32; 4096];
+    // room for the record of 64 vertices
+    let found = answer_image(image, 16717, &mut parents, &mut potential, &mut plan);
+    if found.refusal != 0 {
+        return write_refused(found.refusal, out);
+    }
+    if found.tree == 0 {
+        return write_best(found.cost, out);
+    }
+    write_weighed(found.n, found.cost, found.moves, &plan, out)
 }

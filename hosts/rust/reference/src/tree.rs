@@ -1,0 +1,102 @@
+//! Evaluation of a spanning tree (the specification's weighing), as it is defined.
+
+use crate::problem::{Problem, Tree};
+
+/// What evaluating a tree gives.
+#[derive(Clone, Debug, PartialEq, Eq)]
+pub struct Evaluation {
+    pub cost: u64,
+    pub moves: u32,
+    pub imbalance: Vec<i64>,
+    pub potential: Vec<i64>,
+    /// n × n amounts, row from, column to.
+    pub plan: Vec<u64>,
+}
+
+impl Tree {
+    /// y is below x if x is y or is met going from y up to the root.
+    pub fn is_below(&self, y: usize, x: usize) -> bool {
+        y == x || (y != self.root && self.is_below(self.parents[y], x))
+    }
+
+    /// The number of edges up to the root.
+    pub fn depth(&self, x: usize) -> usize {
+        if x == self.root {
+            0
+        } else {
+            1 + self.depth(self.parents[x])
+        }
+    }
+}
+
+/// +1 where the imbalance is zero or more, −1 where it is less.
+fn sign(imbalance: i64) -> i64 {
+    if imbalance >= 0 {
+        1
+    } else {
+        -1
+    }
+}
+
+/// Evaluates an accepted tree of an accepted problem.
+pub fn evaluate(problem: &Problem, tree: &Tree) -> Evaluation {
+    let n = problem.n;
+    let below: Vec<Vec<usize>> = (0..n)
+        .map(|x| (0..n).filter(|&y| tree.is_below(y, x)).collect())
+        .collect();
+    let imbalance: Vec<i64> = below
+        .iter()
+        .map(|ys| ys.iter().map(|&y| problem.difference(y)).sum())
+        .collect();
+
+    let mut cost = 0;
+    let mut potential = vec![0; n];
+    for x in (0..n).filter(|&x| x != tree.root) {
+        let length = problem.length(x, tree.parents[x]).expect("a tree edge");
+        cost += length * imbalance[x].unsigned_abs();
+        for &y in &below[x] {
+            potential[y] += sign(imbalance[x]) * length as i64;
+        }
+    }
+
+    let plan = plan(problem, tree, &below);
+    Evaluation {
+        cost,
+        moves: moves(n, &plan),
+        imbalance,
+        potential,
+        plan,
+    }
+}
+
+/// The plan by the rule: matched at each vertex, the deepest first.
+fn plan(problem: &Problem, tree: &Tree, below: &[Vec<usize>]) -> Vec<u64> {
+    let n = problem.n;
+    let mut plan = vec![0; n * n];
+    let mut residue: Vec<i64> = (0..n).map(|x| problem.difference(x)).collect();
+    for x in 0..n {
+        plan[x * n + x] = problem.mu[x].min(problem.nu[x]);
+    }
+    let mut order: Vec<usize> = (0..n).collect();
+    order.sort_by_key(|&x| (std::cmp::Reverse(tree.depth(x)), x));
+    for x in order {
+        loop {
+            let from = below[x].iter().find(|&&y| residue[y] > 0);
+            let to = below[x].iter().find(|&&y| residue[y] < 0);
+            let (Some(&from), Some(&to)) = (from, to) else {
+                break;
+            };
+            let amount = residue[from].min(-residue[to]);
+            plan[from * n + to] += amount as u64;
+            residue[from] -= amount;
+            residue[to] += amount;
+        }
+    }
+    plan
+}
+
+/// The number of positive entries off the diagonal.
+pub fn moves(n: usize, plan: &[u64]) -> u32 {
+    let off_diagonal = |&at: &usize| at / n != at % n;
+    (0..n * n).filter(off_diagonal).filter(|&at| plan[at] > 0).count() as u32
+}

@@ -1,0 +1,171 @@
+//! Where to draw the vertices, and the faces between the edges.
+
+/// A point of the drawing, x to the right and y down.
+pub type Point = (f64, f64);
+
+type Edge = (u8, u8, u16);
+
+/// Places for the vertices of a connected graph, so that their distances in the drawing are near those in
+/// the graph: classical scaling first, then stress majorization.
+pub fn places(n: usize, edges: &[Edge]) -> Vec<Point> {
+    if n == 1 {
+        return vec![(0.0, 0.0)];
+    }
+    let wanted = distances(n, edges);
+    let mut places = scaling(n, &wanted);
+    for _ in 0..300 {
+        places = (0..n).map(|i| majorize(i, n, &places, &wanted)).collect();
+    }
+    // Vertex 0 to the left and above.
+    let flip = |at: f64| if at > 1e-6 { -1.0 } else { 1.0 };
+    let (across, down) = (flip(places[0].0), flip(places[0].1));
+    places.iter().map(|p| (p.0 * across, p.1 * down)).collect()
+}
+
+/// Distances in the graph, with lengths drawn towards their median: none so short that vertices collide.
+fn distances(n: usize, edges: &[Edge]) -> Vec<f64> {
+    let mut lengths: Vec<u16> = edges.iter().map(|e| e.2).collect();
+    lengths.sort_unstable();
+    let median = f64::from(lengths[lengths.len() / 2]).max(1.0);
+    let mut d = vec![f64::INFINITY; n * n];
+    for &(a, b, length) in edges {
+        let (a, b) = (usize::from(a), usize::from(b));
+        let length = (f64::from(length) / median).clamp(0.5, 2.5);
+        d[a * n + b] = length;
+        d[b * n + a] = length;
+    }
+    for i in 0..n {
+        d[i * n + i] = 0.0;
+    }
+    for k in 0..n {
+        for i in 0..n {
+            for j in 0..n {
+                d[i * n + j] = d[i * n + j].min(d[i * n + k] + d[k * n + j]);
+            }
+        }
+    }
+    d
+}
+
+/// The two leading coordinates of classical multidimensional scaling, by power iteration.
+fn scaling(n: usize, d: &[f64]) -> Vec<Point> {
+    let square = |i: usize, j: usize| d[i * n + j] * d[i * n + j];
+    let mean = |i: usize| (0..n).map(|j| square(i, j)).sum::<f64>() / n as f64;
+    let means: Vec<f64> = (0..n).map(mean).collect();
+    let overall = means.iter().sum::<f64>() / n as f64;
+    let mut b: Vec<f64> = (0..n * n)
+        .map(|k| -0.5 * (square(k / n, k % n) - means[k / n] - means[k % n] + overall))
+        .collect();
+    let mut axis = || {
+        let mut v: Vec<f64> = (0..n).map(|i| (i as f64 * 1.7 + 0.3).sin()).collect();
+        let mut value = 0.0;
+        for _ in 0..200 {
+            let w: Vec<f64> = (0..n)
+                .map(|i| (0..n).map(|j| b[i * n + j] * v[j]).sum())
+                .collect();
+            value = w.iter().map(|x| x * x).sum::<f64>().sqrt();
+            if value < 1e-9 {
+                return vec![0.0; n];
+            }
+            v = w.iter().map(|x| x / value).collect();
+        }
+        for k in 0..n * n {
+            b[k] -= value * v[k / n] * v[k % n];
+        }
+        v.iter().map(|x| x * value.sqrt()).collect::<Vec<f64>>()
+    };
+    let (x, y) = (axis(), axis());
+    x.into_iter().zip(y).collect()
+}
+
+/// One step of stress majorization for vertex i, with weights 1 / distance².
+fn majorize(i: usize, n: usize, places: &[Point], wanted: &[f64]) -> Point {
+    let (mut x, mut y, mut weights) = (0.0, 0.0, 0.0);
+    for j in (0..n).filter(|&j| j != i) {
+        let want = wanted[i * n + j];
+        let weight = 1.0 / (want * want);
+        let (dx, dy) = (places[i].0 - places[j].0, places[i].1 - places[j].1);
+        let now = dx.hypot(dy);
+        let pull = if now > 1e-9 { want / now } else { 0.0 };
+        x += weight * (places[j].0 + dx * pull);
+        y += weight * (places[j].1 + dy * pull);
+        weights += weight;
+    }
+    (x / weights, y / weights)
+}
+
+/// The bounded faces of the drawing, none if two edges cross.
+pub fn faces(places: &[Point], edges: &[Edge]) -> Vec<Vec<usize>> {
+    let pairs: Vec<(usize, usize)> = edges.iter().map(|e| (e.0.into(), e.1.into())).collect();
+    if pairs.iter().any(|&p| pairs.iter().any(|&q| cross(places, p, q))) {
+        return Vec::new();
+    }
+    // Round each vertex its neighbours by angle; a face keeps turning to the next neighbour.
+    let mut around: Vec<Vec<usize>> = vec![Vec::new(); places.len()];
+    for &(a, b) in &pairs {
+        around[a].push(b);
+        around[b].push(a);
+    }
+    for (x, neighbours) in around.iter_mut().enumerate() {
+        let angle = |y: usize| (places[y].1 - places[x].1).atan2(places[y].0 - places[x].0);
+        neighbours.sort_by(|&y, &z| angle(y).total_cmp(&angle(z)));
+    }
+    let mut seen: Vec<(usize, usize)> = Vec::new();
+    let mut faces = Vec::new();
+    for start in pairs.iter().flat_map(|&(a, b)| [(a, b), (b, a)]) {
+        let mut face = Vec::new();
+        let (mut x, mut y) = start;
+        while !seen.contains(&(x, y)) {
+            seen.push((x, y));
+            face.push(x);
+            let turn = around[y].iter().position(|&z| z == x).expect("a neighbour");
+            let next = around[y][(turn + 1) % around[y].len()];
+            (x, y) = (y, next);
+        }
+        if face.len() > 2 && area(places, &face) < -1e-9 {
+            faces.push(face);
+        }
+    }
+    faces
+}
+
+fn area(places: &[Point], face: &[usize]) -> f64 {
+    let next = face.iter().cycle().skip(1);
+    let sides = face.iter().zip(next).map(|(&x, &y)| (places[x], places[y]));
+    sides.map(|(p, q)| p.0 * q.1 - q.0 * p.1).sum::<f64>() / 2.0
+}
+
+fn cross(places: &[Point], p: (usize, usize), q: (usize, usize)) -> bool {
+    if p.0 == q.0 || p.0 == q.1 || p.1 == q.0 || p.1 == q.1 {
+        return false;
+    }
+    let side = |a: usize, b: usize, c: usize| {
+        let ((ax, ay), (bx, by), (cx, cy)) = (places[a], places[b], places[c]);
+        (bx - ax) * (cy - ay) - (by - ay) * (cx - ax)
+    };
+    let apart = |(a, b): (usize, usize), (c, d): (usize, usize)| side(a, b, c) * side(a, b, d) < 0.0;
+    apart(p, q) && apart(q, p)
+}
+
+#[cfg(test)]
+mod tests {
+    use super::{faces, places};
+
+    #[test]
+    fn a_line_is_drawn_straight() {
+        let line = places(3, &[(0, 1, 10), (1, 2, 10)]);
+        assert!(line.iter().all(|p| p.1.abs() < 1e-3));
+        assert!(((line[0].0 - line[2].0).abs() - 2.0).abs() < 1e-3);
+    }
+
+    #[test]
+    fn bounded_faces() {
+        let square = [(0.0, 0.0), (1.0, 0.0), (1.0, 1.0), (0.0, 1.0)];
+        let ring = [(0, 1, 1), (0, 3, 1), (1, 2, 1), (2, 3, 1)];
+        assert_eq!(faces(&square, &ring).len(), 1);
+        let one_diagonal = [(0, 1, 1), (0, 2, 1), (0, 3, 1), (1, 2, 1), (2, 3, 1)];
+        assert_eq!(faces(&square, &one_diagonal).len(), 2);
+        let crossing = [(0, 1, 1), (0, 2, 1), (0, 3, 1), (1, 2, 1), (1, 3, 1), (2, 3, 1)];
+        assert_eq!(faces(&square, &crossing).len(), 0);
+    }
+}

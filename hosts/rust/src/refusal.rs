@@ -1,0 +1,120 @@
+use std::fmt;
+
+/// Why the library refused a call: the numbers of its specification.
+///
+/// The checks run in the order 11, 12, 13 and then 1 to 10; the first that fails gives the number.
+#[derive(Clone, Copy, Debug, PartialEq, Eq, Hash)]
+#[non_exhaustive]
+pub enum Refusal {
+    /// 1: the number of vertices is 0 or above 64.
+    VertexCount,
+    /// 2: more than 512 edges, or a record buffer that is too short.
+    TableSize,
+    /// 3: an edge has an end that is no vertex, has its ends in falling order, or is not after its forerunner.
+    EdgeOrder,
+    /// 4: the length of an edge is 0 or above 65,535.
+    EdgeLength,
+    /// 5: some vertex cannot be reached from vertex 0.
+    NotConnected,
+    /// 6: the total of a measure is above 16,777,216.
+    TotalTooLarge,
+    /// 7: the totals of the two measures differ.
+    TotalsDiffer,
+    /// 8: the root or a parent is no vertex, the root has another parent, or a second vertex is its own parent.
+    TreeParents,
+    /// 9: a vertex and its parent share no edge.
+    TreeEdge,
+    /// 10: a chain of parents misses the root.
+    TreeCycle,
+    /// 11: the image has under 36 or over 65,536 bytes.
+    ImageSize,
+    /// 12: a section of the image overlaps what is before it, or ends past the image.
+    SectionPlace,
+    /// 13: byte 1 of the image is not 0, or a section's length does not fit the counts.
+    SectionLength,
+    /// A number that this crate does not know.
+    Other(u32),
+}
+
+impl Refusal {
+    /// The refusal with a number, none for 0.
+    pub fn from_number(number: u32) -> Option<Refusal> {
+        Some(match number {
+            0 => return None,
+            1 => Refusal::VertexCount,
+            2 => Refusal::TableSize,
+            3 => Refusal::EdgeOrder,
+            4 => Refusal::EdgeLength,
+            5 => Refusal::NotConnected,
+            6 => Refusal::TotalTooLarge,
+            7 => Refusal::TotalsDiffer,
+            8 => Refusal::TreeParents,
+            9 => Refusal::TreeEdge,
+            10 => Refusal::TreeCycle,
+            11 => Refusal::ImageSize,
+            12 => Refusal::SectionPlace,
+            13 => Refusal::SectionLength,
+            other => Refusal::Other(other),
+        })
+    }
+
+    /// The refusal's number.
+    pub fn number(self) -> u32 {
+        match self {
+            Refusal::VertexCount => 1,
+            Refusal::TableSize => 2,
+            Refusal::EdgeOrder => 3,
+            Refusal::EdgeLength => 4,
+            Refusal::NotConnected => 5,
+            Refusal::TotalTooLarge => 6,
+            Refusal::TotalsDiffer => 7,
+            Refusal::TreeParents => 8,
+            Refusal::TreeEdge => 9,
+            Refusal::TreeCycle => 10,
+            Refusal::ImageSize => 11,
+            Refusal::SectionPlace => 12,
+            Refusal::SectionLength => 13,
+            Refusal::Other(number) => number,
+        }
+    }
+}
+
+impl fmt::Display for Refusal {
+    fn fmt(&self, f: &mut fmt::Formatter) -> fmt::Result {
+        let meaning = match self {
+            Refusal::VertexCount => "the number of vertices is 0 or above 64",
+            Refusal::TableSize => "more than 512 edges, or too short a buffer",
+            Refusal::EdgeOrder => "an edge's ends are wrong, or an edge comes twice or out of order",
+            Refusal::EdgeLength => "an edge's length is 0 or above 65,535",
+            Refusal::NotConnected => "some vertex cannot be reached from vertex 0",
+            Refusal::TotalTooLarge => "a total is above 16,777,216",
+            Refusal::TotalsDiffer => "the two totals differ",
+            Refusal::TreeParents => "the tree's root or a parent is wrong, or there is a second root",
+            Refusal::TreeEdge => "a vertex of the tree and its parent share no edge",
+            Refusal::TreeCycle => "a chain of the tree's parents misses the root",
+            Refusal::ImageSize => "the image has under 36 or over 65,536 bytes",
+            Refusal::SectionPlace => "a section of the image is out of place",
+            Refusal::SectionLength => "a section of the image has a length that does not fit",
+            Refusal::Other(_) => "for a reason unknown to this crate",
+        };
+        write!(f, "refused {}: {meaning}", self.number())
+    }
+}
+
+impl std::error::Error for Refusal {}
+
+#[cfg(test)]
+mod tests {
+    use super::Refusal;
+
+    #[test]
+    fn numbers_and_refusals_agree() {
+        assert_eq!(Refusal::from_number(0), None);
+        for number in (1..=30).chain([u32::MAX]) {
+            let refusal = Refusal::from_number(number).expect("a refusal");
+            assert_eq!(refusal.number(), number);
+            assert_eq!(matches!(refusal, Refusal::Other(_)), number > 13);
+            assert!(refusal.to_string().starts_with(&format!("refused {number}: ")));
+        }
+    }
+}

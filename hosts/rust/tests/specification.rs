@@ -1,0 +1,118 @@
+//! The specification's marked cases and the examples of its refusal table, through the library.
+
+use weight_mover::{mover_run, record_size, Answer, Patch, Refusal};
+
+const RING: [(u8, u8, u16); 4] = [(0, 1, 1), (0, 3, 1), (1, 2, 1), (2, 3, 1)];
+const LINE: [(u8, u8, u16); 3] = [(0, 1, 2), (1, 2, 3), (2, 3, 1)];
+
+fn run(patch: Patch) -> Answer {
+    patch.run().expect("accepted")
+}
+
+#[test]
+fn case_a() {
+    let a = Patch::new(4).edges(LINE).mu(&[5, 0, 1, 0]).nu(&[0, 2, 1, 3]);
+    let answer = run(a.clone().tree(3, &[1, 2, 3, 3]));
+    assert_eq!((answer.cost, answer.moves), (22, 2));
+    assert_eq!(answer.potential, [6, 4, 1, 0]);
+    assert_eq!((answer.root, answer.parents.as_slice()), (3, &[1, 2, 3, 3][..]));
+    let entries: Vec<_> = answer.entries().collect();
+    assert_eq!(entries, [(0, 1, 2), (0, 3, 3), (2, 2, 1)]);
+    assert_eq!(run(a).cost, 22);
+}
+
+#[test]
+fn cases_b_and_c() {
+    let b = Patch::new(4).edges(RING).mu(&[4, 0, 0, 0]).nu(&[0, 0, 0, 4]);
+    assert_eq!(run(b.clone().tree(0, &[0, 0, 1, 2])).cost, 12);
+    assert_eq!(run(b).cost, 4);
+    let c = Patch::new(4).edges(RING).mu(&[1; 4]).nu(&[1; 4]);
+    let answer = run(c.tree(0, &[0, 0, 1, 2]));
+    assert_eq!((answer.cost, answer.potential.as_slice()), (0, &[0, 1, 2, 3][..]));
+}
+
+#[test]
+fn case_d() {
+    let d = Patch::new(3).edge(0, 1, 5).edge(0, 2, 1).edge(1, 2, 1);
+    let answer = run(d.mu(&[3, 0, 0]).nu(&[0, 3, 0]));
+    assert_eq!((answer.cost, answer.moves, answer.root), (6, 1, 0));
+    assert_eq!(answer.amount(0, 1), 3);
+    assert_eq!(answer.potential, [0, -2, -1]);
+}
+
+#[test]
+fn case_e() {
+    let e = Patch::new(1).mu(&[7]).nu(&[7]);
+    for patch in [e.clone(), e.tree(0, &[0])] {
+        let answer = run(patch);
+        assert_eq!((answer.cost, answer.moves, answer.plan()), (0, 0, &[7][..]));
+    }
+}
+
+#[test]
+fn case_f() {
+    let f = |grains: u32| Patch::new(2).edge(0, 1, 65_535).mu(&[grains, 0]).nu(&[0, grains]);
+    assert_eq!(run(f(16_777_216)).cost, 1_099_494_850_560);
+    assert_eq!(run(f(16_777_216).tree(1, &[1, 1])).cost, 1_099_494_850_560);
+    assert_eq!(f(16_777_217).run(), Err(Refusal::TotalTooLarge));
+}
+
+#[test]
+fn cases_g_and_h() {
+    let line = Patch::new(6).edges((0..5).map(|x| (x, x + 1, 1)));
+    let line = line.mu(&[1, 1, 0, 0, 0, 6]).nu(&[0, 0, 4, 2, 2, 0]);
+    let g = run(line.clone().tree(5, &[1, 2, 3, 4, 5, 5]));
+    assert_eq!((g.cost, g.moves), (15, 5));
+    assert_eq!(g.potential, [-1, -2, -3, -2, -1, 0]);
+    assert_eq!(run(line.clone().tree(0, &[0, 0, 1, 2, 3, 4])).cost, 15);
+    assert_eq!(run(line).cost, 15);
+}
+
+/// The examples of the refusal table; an image cannot hold those of lists that differ in length.
+#[test]
+fn refusal_table() {
+    let two = || Patch::new(2).edge(0, 1, 1);
+    let three = || Patch::new(3).edge(0, 1, 1).edge(1, 2, 1);
+    assert_eq!(Patch::new(0).run(), Err(Refusal::VertexCount));
+    assert_eq!(Patch::new(65).run(), Err(Refusal::VertexCount));
+    let crowded = (0..513).fold(Patch::new(2), |patch, _| patch.edge(0, 1, 1));
+    assert_eq!(crowded.run(), Err(Refusal::TableSize));
+    assert_eq!(two().edge(0, 1, 2).run(), Err(Refusal::EdgeOrder));
+    assert_eq!(two().edge(1, 2, 2).run(), Err(Refusal::EdgeOrder));
+    assert_eq!(two().edge(1, 1, 2).run(), Err(Refusal::EdgeOrder));
+    assert_eq!(Patch::new(2).edge(0, 1, 0).run(), Err(Refusal::EdgeLength));
+    assert_eq!(Patch::new(3).edge(0, 1, 1).run(), Err(Refusal::NotConnected));
+    let heavy = Patch::new(1).mu(&[16_777_217]).nu(&[16_777_217]);
+    assert_eq!(heavy.run(), Err(Refusal::TotalTooLarge));
+    assert_eq!(Patch::new(1).mu(&[3]).nu(&[4]).run(), Err(Refusal::TotalsDiffer));
+    assert_eq!(two().tree(0, &[1, 0]).run(), Err(Refusal::TreeParents));
+    assert_eq!(three().tree(0, &[0, 0, 0]).run(), Err(Refusal::TreeEdge));
+    assert_eq!(three().tree(0, &[0, 2, 1]).run(), Err(Refusal::TreeCycle));
+    assert_eq!(two().mu(&[1]).run(), Err(Refusal::SectionLength));
+    assert_eq!(two().tree(0, &[0]).run(), Err(Refusal::SectionLength));
+
+    let image = two().image();
+    let mut record = [0xA5; record_size(2)];
+    assert_eq!(mover_run(&image[..35], &mut record), 11);
+    assert_eq!(mover_run(&[], &mut []), 11);
+    assert_eq!(mover_run(&vec![0; 65_537], &mut record), 11);
+    let mut moved = image.clone();
+    moved[4] = 35;
+    assert_eq!(mover_run(&moved, &mut record), 12);
+    let mut reversed = image.clone();
+    reversed[36..38].copy_from_slice(&[1, 0]);
+    assert_eq!(mover_run(&reversed, &mut record), 3);
+    assert_eq!(mover_run(&image, &mut record[1..]), 2);
+    assert_eq!(record, [0xA5; record_size(2)]);
+    assert_eq!(mover_run(&image, &mut record), 0);
+}
+
+/// Edges are handed over in rising order, however they were added.
+#[test]
+fn builder_sorts_edges() {
+    let sorted = Patch::new(4).edges(LINE).mu(&[1, 0, 0, 0]).nu(&[0, 0, 0, 1]);
+    let mixed = Patch::new(4).edge(3, 2, 1).edge(1, 0, 2).edge(2, 1, 3);
+    let mixed = mixed.mu(&[1, 0, 0, 0]).nu(&[0, 0, 0, 1]);
+    assert_eq!(mixed.image(), sorted.image());
+    assert_eq!(run(mixed).cost, 6);
+}

@@ -1,11 +1,11 @@
 -- Tests: case analysis that keeps the equation, and tests over all numbers below a bound.
 use mathlib.Core.Path.{_≡_, refl, sym, _∙_}
-use mathlib.Core.Bool.{Bool, true, false, not, _&&_, _||_, true≢false, and-false}
+use mathlib.Core.Bool.{Bool, true, false, _&&_, _||_, true≢false}
 use Prim.Native.Nat.{ℕ, zero, suc, _+_, _≤_, _<_}
 use native.Mathlib.Numerals.{add-one}
 use native.Mathlib.Omega.{arith}
 use lib.Dec.{eqb, ltb, leb}
-use borrow.Author.Tests.{eqb-true, eqb-false, eq-eqb, ne-eqb, ltb-true, ltb-false, leb-true, leb-false, le-leb}
+use borrow.Author.Tests.{eqb-true, eqb-false, eq-eqb, ne-eqb, ltb-true, ltb-false, leb-true, leb-false}
 
 -- go by a test, and know in each case what it gave
 pub case : {A : Type 0} (b : Bool) → (b ≡ true → A) → (b ≡ false → A) → A
@@ -134,6 +134,3 @@ any-at (suc m) p h =
     or-elim (any m p) (p m) h
     (λ e. let z = any-at m p e in (z .0, (omega (arith, z .1 .0), z .1 .1)))
     (λ e. (m, (omega arith, e)))
-
-pub any-fails : (m : ℕ) (p : ℕ → Bool) → ((i : ℕ) → i < m → p i ≡ false) → any m p ≡ false
-any-fails m p h = is-false _ (λ e. let z = any-at m p e in clash (z .1 .1) (h (z .0) (z .1 .0)))

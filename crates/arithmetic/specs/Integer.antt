@@ -2,7 +2,6 @@
 use mathlib.Core.Path.{_≡_, refl, sym, ap, _∙_}
 use mathlib.Core.Bool.{Bool, true, false}
 use Prim.Native.Nat.{ℕ, zero, suc, _+_, _*_, _-_, _<_}
-use native.Mathlib.Numerals.{add-one}
 use native.Mathlib.Omega.{arith}
 use lib.Dec.{leb}
 use lib.IntN.{ℤ, pos, negsuc, negℤ, natAbs, subℕ, _+ℤ_, _-ℤ_, _*ℤ_, *ℤ-comm}
@@ -159,11 +158,6 @@ sub-le a b c d =
 pub pickℤ-sub : (t : Bool) (a b : ℕ) → pickℤ t (subℕ a b) ≡ subℕ (pick t a) (pick t b)
 pickℤ-sub true a b = refl
 pickℤ-sub false a b = refl
-
--- one more term, as code counts: n + 1
-pub sumℤ-step : (n : ℕ) (f : ℕ → ℤ) → sumℤ (n + 1) f ≡ sumℤ n f +ℤ f n
-unfolding sumℤ
-sumℤ-step n f = rw add-one
 
 pub sumℤ-ext : (n : ℕ) (f g : ℕ → ℤ) → ((i : ℕ) → i < n → f i ≡ g i) → sumℤ n f ≡ sumℤ n g
 unfolding sumℤ

@@ -1,14 +1,14 @@
 -- Words as sets: bit i of a word, and the word of a test.
 use mathlib.Core.Path.{_≡_, refl, sym, ap, _∙_}
-use mathlib.Core.Bool.{Bool, true, false, cond, _&&_}
+use mathlib.Core.Bool.{Bool, true, false, not, _&&_}
 use Prim.Native.Nat.{ℕ, zero, suc, _+_, _-_, _*_, _/_, _%_, _≤_, _<_, _^_}
-use native.Mathlib.Nat.{add-zero, one-mul}
+use native.Mathlib.Nat.{one-mul}
 use native.Mathlib.Numerals.{add-one}
 use native.Mathlib.Omega.{arith}
-use lib.Bits.{bitOr, bitAnd, or-shifted-r, and-mask}
 use lib.Dec.{eqb, lit<}
 use lib.Pow.{shl-exact, pow-add, high, low, field, mod-mod-pow}
-use Rattle.arithmetic.specs.Bools.{case≡}
+use borrow.Author.Tests.{ne-eqb}
+use Rattle.arithmetic.specs.Bools.{case, case≡, eqb-self}
 use Rattle.arithmetic.specs.Sum.{pick}
 
 -- bit i of w
@@ -63,3 +63,26 @@ bit-mask (suc m) p i h =
 
     rest : (t : Bool) → i < m → bit (pick t 1 * 2 ^ m + mask m p) i ≡ bit (mask m p) i
     rest t g = ap (λ (x : ℕ). eqb x 1) (sym (bit-low _ m i g) ∙ ap (λ (x : ℕ). x / 2 ^ i % 2) (low (pick t 1) m (mask-lt m p)))
+
+-- the bits of a mask are its test's
+pub mask-bits : (n : ℕ) (f : ℕ → Bool) (w : ℕ) → w ≡ mask n f → w ≡ mask n (bit w)
+mask-bits n f w e = e ∙ mask-ext n f (bit w) (λ i l. sym (bit-mask n f i l) ∙ ap (λ (x : ℕ). bit x i) (sym e))
+
+-- a mask is that without x, and x
+pub mask-take : (n : ℕ) (f : ℕ → Bool) (x : ℕ) → x < n → f x ≡ true → mask n f ≡ mask n (λ y. f y && not (eqb y x)) + 2 ^ x
+unfolding mask
+mask-take zero f x l e = absurd (omega arith)
+mask-take (suc m) f x l e =
+    case≡ x m
+    (λ h. rw (← h, e, eqb-self x, mask-ext x f (λ y. f y && not (eqb y x)) (λ y k. same y (λ z. omega arith))) (omega arith))
+    (λ h. rw (mask-take m f x (omega arith) e, ← same m (λ z. h (sym z))) (omega arith))
+  where
+    same : (y : ℕ) → (y ≡ x → ⊥) → f y ≡ f y && not (eqb y x)
+    same y d = rw (ne-eqb y x d) (case (f y) (λ z. cc) (λ z. cc))
+
+pub mask-has : (n : ℕ) (f : ℕ → Bool) (x : ℕ) → x < n → f x ≡ true → 2 ^ x ≤ mask n f
+mask-has n f x l e = omega (arith, mask-take n f x l e)
+
+-- a vertex alone, as code shifts it
+pub shl-one : (x : ℕ) → x < 64 → (1 * 2 ^ x) % 2 ^ 64 ≡ 2 ^ x
+shl-one x h = shl-exact 1 x 64 (lit< tt) (omega arith) ∙ one-mul _

@@ -94,6 +94,12 @@ unfolding sum
 sum-ge zero i f l = absurd (omega arith)
 sum-ge (suc n) i f l = case≡ n i (λ e. omega (arith, ap f e)) (λ d. omega (arith, sum-ge n i f (omega arith)))
 
+-- the first terms of a sum are at most the whole
+pub sum-front : (m n : ℕ) (f : ℕ → ℕ) → m ≤ n → sum m f ≤ sum n f
+unfolding sum
+sum-front m zero f l = let e : m ≡ 0 = omega arith in rw e (omega arith)
+sum-front m (suc n) f l = case≡ m (suc n) (λ e. rw e (omega arith)) (λ d. omega (arith, sum-front m n f (omega arith)))
+
 -- n terms of at most k each
 pub sum-le-mul : (n k : ℕ) (f : ℕ → ℕ) → ((i : ℕ) → i < n → f i ≤ k) → sum n f ≤ n * k
 unfolding sum

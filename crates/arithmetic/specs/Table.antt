@@ -2,12 +2,12 @@
 use mathlib.Core.Path.{_≡_, refl, sym, ap, _∙_}
 use mathlib.Core.List.{List, [], _∷_, _++_, append-assoc}
 use Prim.Native.Nat.{ℕ, zero, suc, _+_, _-_, _*_, _≤_, _<_}
-use native.Mathlib.Nat.{mul-le-mul-right, suc-mul}
+use native.Mathlib.Nat.{mul-le-mul-right}
 use native.Mathlib.Numerals.{add-one}
 use native.Mathlib.Omega.{arith}
-use lib.ListN.{length, getD, drop, set, length-append, length-drop, length-set, List·getD-append}
-use lib.Seq.{drop-cons, set-at, drop-at, getD-at, getD-append-add, getD-drop, ext-getD, getD-set-same, getD-set-other}
-use Rattle.arithmetic.specs.Bools.{case≡, case<}
+use lib.ListN.{length, getD, drop, set, length-append, length-drop, List·getD-append}
+use lib.Seq.{drop-cons, set-at, drop-at, getD-at, getD-append-add}
+use Rattle.arithmetic.specs.Bools.{case≡}
 
 -- the number at place i
 abbrev pub at : List ℕ → ℕ → ℕ
@@ -76,23 +76,16 @@ unfolding tab
 tab-ext zero f g h = refl
 tab-ext (suc m) f g h = rw (tab-ext m f g (λ i l. h i (omega arith)), h m (omega arith))
 
--- a list that reads as f, and then as another list, is f's table and that list's rest
-pub tab-front : {A : Type 0} (m : ℕ) (f : ℕ → A) (d : A) (l lent : List A) → m ≤ length lent → length l ≡ length lent
-    → ((i : ℕ) → i < m → getD l i d ≡ f i) → ((i : ℕ) → i < length lent → m ≤ i → getD l i d ≡ getD lent i d)
-    → l ≡ tab m f ++ drop m lent
-tab-front m f d l lent long same front rest =
-    ext-getD d l (tab m f ++ drop m lent)
-    (rw (length-append, length-tab m f, length-drop) (omega arith))
-    (λ i h. case< i m
-    (λ k. front i k ∙ sym (List·getD-append (tab m f) (drop m lent) d i (rw (length-tab m f) k) ∙ tab-at m f d i k))
-    (λ k. rest i (omega arith) k ∙ sym (behind i k)))
-  where
-    behind : (i : ℕ) → m ≤ i → getD (tab m f ++ drop m lent) i d ≡ getD lent i d
-    behind i k =
-        let e : i ≡ length (tab m f) + (i - m) = omega (arith, length-tab m f) in
-        let g : m + (i - m) ≡ i = omega arith in
-        ap (λ (x : ℕ). getD (tab m f ++ drop m lent) x d) e ∙ getD-append-add (tab m f) (drop m lent) (i - m) d
-        ∙ getD-drop m lent (i - m) d ∙ ap (λ (x : ℕ). getD lent x d) g
+-- a table with f written over its front: what it reads there, how long it is, and its rest
+module _ {A : Type 0} (n : ℕ) (f : ℕ → A) (lent : List A) where
+  pub front-at : (d : A) (x : ℕ) → x < n → getD (tab n f ++ drop n lent) x d ≡ f x
+  front-at d x l = List·getD-append (tab n f) (drop n lent) d x (rw (length-tab n f) l) ∙ tab-at n f d x l
+
+  pub front-length : n ≤ length lent → length (tab n f ++ drop n lent) ≡ length lent
+  front-length h = rw (length-append, length-tab n f, length-drop) (omega arith)
+
+  pub front-rest : drop n (tab n f ++ drop n lent) ≡ drop n lent
+  front-rest = drop-at (tab n f) (drop n lent) n (length-tab n f)
 
 -- ---- rows
 

@@ -12,7 +12,7 @@ use Rattle.arithmetic.specs.Product.{gap}
 use Rattle.arithmetic.specs.Table.{at}
 use Rattle.arithmetic.specs.Integer.{sumℤ, sumℤ-ext, plus, minus, as-sub, sub-cong, sub-inj, sub-same, sub-zero, sub-sub, abs-sub, weigh}
 use Rattle.rooted_tree.specs.Rooted.{Rooted}
-use Rattle.rooted_tree.specs.Flow.{flowCost, tree-weak}
+use Rattle.rooted_tree.specs.Flow.{tree-weak}
 use Rattle.graph.specs.Graph.{Graph, edges, joined, edgeLength}
 use Rattle.graph.specs.SpanningTree.{SpanningTree}
 use Rattle.graph.specs.Distance.{distance}
@@ -20,7 +20,7 @@ use Rattle.graph.specs.Accepted.{Accepted}
 use Rattle.graph.specs.EdgeLaws.{edge-order, joins-ends, joined-edge, joined-sym, edgeLength-sym}
 use Rattle.graph.specs.PathLaws.{path-edge, distance-below}
 use Rattle.graph.specs.DistanceLaws.{distance-self, distance-triangle, distance-step}
-use Rattle.spanning_tree.specs.TreeTests.{spanning-rooted, spanning-into}
+use Rattle.spanning_tree.specs.TreeTests.{spanning-rooted}
 use Rattle.spanning_tree.specs.Weigh.{difference, toParent, treeCost}
 use Rattle.spanning_tree.specs.WeighLaws.{treeCost-flow}
 use Rattle.transport_plan.specs.Plan.{plan}

@@ -8,12 +8,11 @@ use native.Mathlib.Nat.{add-zero}
 use native.Mathlib.Numerals.{add-one}
 use native.Mathlib.Omega.{arith}
 use lib.Dec.{eqb, ltb}
-use lib.ListN.{length, drop, set, length-append, length-drop, length-set, List·getD-append}
-use lib.Seq.{drop-at}
+use lib.ListN.{length, drop, set, length-set}
 use borrow.Author.Tests.{eqb-true, eq-eqb, ne-eqb, lt-ltb, le-ltb}
 use Rattle.arithmetic.specs.Bools.{case, case≡, case<, clash, is-false, and-l, and-r, and-true, eqb-self, or-true-r, any, any-none, any-step}
 use Rattle.arithmetic.specs.Sum.{sum, pick, sum-step, sum-zeros}
-use Rattle.arithmetic.specs.Table.{at, cell, tab, length-tab, tab-at, cell-below}
+use Rattle.arithmetic.specs.Table.{at, cell, tab, front-at, front-length, front-rest, cell-below}
 use Rattle.arithmetic.specs.Matrix.{filled, filled-at, filled-ext, filled-over, filled-length, filled-by, filled-store, filled-self}
 use Rattle.graph.specs.Graph.{Graph, edges, joins, joined, edgeLength}
 use Rattle.graph.specs.Checks.{edgesOk, lengthsOk}
@@ -83,12 +82,9 @@ clear-end n s p l m e room hp hs r = rw (r, z) all
     all : front ++ drop (n * n) l ≡ filled n (λ i j. far) l
     all =
         filled-by n (λ i j. far) l room (front ++ drop (n * n) l)
-        (rw (length-append, length-tab (n * n) (λ _. far), length-drop) (omega arith))
-        (drop-at front (drop (n * n) l) (n * n) (length-tab (n * n) (λ _. far)))
-        (λ i j hi hj.
-        let h = cell-below n i j hi hj in
-        List·getD-append front (drop (n * n) l) 0 (i * n + j) (rw (length-tab (n * n) (λ _. far)) h)
-        ∙ tab-at (n * n) (λ _. far) 0 (i * n + j) h)
+        (front-length (n * n) (λ _. far) l room)
+        (front-rest (n * n) (λ _. far) l)
+        (λ i j hi hj. front-at (n * n) (λ _. far) l 0 (i * n + j) (cell-below n i j hi hj))
 
 -- ---- 0 on the diagonal
 

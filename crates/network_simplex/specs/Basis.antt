@@ -1,6 +1,6 @@
 -- The state of the search: a spanning tree with root 0, in tables of 64 places of which the first n count, with what the search keeps of
 -- each vertex x: the length of the edge above it, both masses below it, the mask of its subtree and its potential.
-use Prim.Native.Nat.{ℕ, _+_, _*_, _^_, _≤_, _<_}
+use Prim.Native.Nat.{ℕ, _^_, _≤_, _<_}
 use mathlib.Core.Path.{_≡_}
 use mathlib.Core.Bool.{true}
 use mathlib.Core.List.{List}

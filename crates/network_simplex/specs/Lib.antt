@@ -1,3 +1,4 @@
+pub mod Words
 pub mod Pivot
 pub mod PathReversal
 pub mod PivotCost

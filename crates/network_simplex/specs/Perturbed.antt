@@ -1,6 +1,6 @@
 -- The masses that the search balances: scaled by 64, with one grain more at each vertex but 0, where they all go. No subtree balances, and
 -- a subtree's surplus has the sign of the true one, or the true one is 0.
-use Prim.Native.Nat.{ℕ, _+_, _-_, _*_, _^_, _≤_, _<_}
+use Prim.Native.Nat.{ℕ, _+_, _-_, _*_, _≤_, _<_}
 use mathlib.Core.Path.{_≡_, refl, sym, ap, _∙_}
 use mathlib.Core.Bool.{Bool, true, false, not}
 use mathlib.Core.Logic.{inl, inr, ⊎-elim}

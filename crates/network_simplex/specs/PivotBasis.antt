@@ -9,7 +9,7 @@ use lib.Pow.{pow-mono}
 use Rattle.arithmetic.specs.Bools.{clash, is-false}
 use Rattle.arithmetic.specs.Sum.{pick, sum}
 use Rattle.arithmetic.specs.Table.{at}
-use Rattle.arithmetic.specs.Mask.{bit, mask, mask-lt, bit-mask}
+use Rattle.arithmetic.specs.Mask.{bit, mask, mask-lt, bit-mask, mask-bits}
 use Rattle.rooted_tree.specs.Chain.{below}
 use Rattle.rooted_tree.specs.Rooted.{Rooted, refl-b, not-root, trans-b, comparable}
 use Rattle.rooted_tree.specs.Subtotal.{subtotal}
@@ -191,15 +191,18 @@ module _ {g : Graph} {m v : ℕ → ℕ} {n a b c long : ℕ} {rises : Bool} {pa
     pivot = turned .parents .pivot
 
     -- the new subtree of a is the one that was cut off
+    subtree-mask : at masks' a ≡ mask n (λ y. below (at parents) n y c)
+    subtree-mask =
+        moved .totals (at parents') powers pivot mask-totals a (can .a-low) ∙ total-a pivot powers ∙ sym (mask-subtotal n (at parents) c)
+
     subtree-bit : (x : ℕ) → x < n → bit (at masks' a) x ≡ below (at parents) n x c
-    subtree-bit x l =
-        ap (λ (z : ℕ). bit z x) (moved .totals (at parents') powers pivot mask-totals a (can .a-low) ∙ total-a pivot powers
-        ∙ sym (mask-subtotal n (at parents) c)) ∙ bit-mask n (λ y. below (at parents) n y c) x l
+    subtree-bit x l = ap (λ (z : ℕ). bit z x) subtree-mask ∙ bit-mask n (λ y. below (at parents) n y c) x l
 
     pub can-shift-potential : (d : ℕ) → d ≡ excess rises (at potential a) (at potential b) long → CanShiftPotential n (at masks' a) rises d potential
     can-shift-potential d e = record {
       few = few;
       size = omega (arith, few, can .basis .potential-size);
+      word = mask-bits n _ _ subtree-mask;
       room = λ x l h.
           rw (e, can .length-is)
           (shift-room pivot (can .network .symmetric) old (can .network .short) few (can .basis .grounded) rises violates x l

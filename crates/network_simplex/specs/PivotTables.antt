@@ -1,17 +1,20 @@
 -- The tables of a pivot: what is kept of each vertex is brought from the old tree to the new one by walks along paths.
-use mathlib.Core.Path.{_≡_, refl, _∙_}
+use mathlib.Core.Path.{_≡_, refl, sym, _∙_}
 use mathlib.Core.Bool.{Bool, true, false, cond}
 use mathlib.Core.List.{List}
-use Prim.Native.Nat.{ℕ, _+_, _-_, _^_, _≤_, _<_}
+use Prim.Native.Nat.{ℕ, _+_, _-_, _*_, _%_, _^_, _≤_, _<_}
+use native.Mathlib.Nat.{zero-div}
 use native.Mathlib.Omega.{arith}
 use lib.ListN.{length, set, length-set}
 use lib.Seq.{getD-set-same, getD-set-other}
-use Rattle.arithmetic.specs.Bools.{case≡}
+use Rattle.arithmetic.specs.Bools.{case≡, clash}
 use Rattle.arithmetic.specs.Sum.{sum}
 use Rattle.arithmetic.specs.Table.{at}
-use Rattle.arithmetic.specs.Mask.{bit}
+use Rattle.arithmetic.specs.Mask.{bit, mask}
 use Rattle.rooted_tree.specs.Chain.{below}
 use Rattle.rooted_tree.specs.Subtotal.{subtotal}
+use Rattle.transport_plan.specs.Plan.{lowest}
+use Rattle.network_simplex.specs.Words.{Without, without-lowest}
 use Rattle.network_simplex.specs.Pivot.{Pivot}
 use Rattle.network_simplex.specs.PathReversal.{CanPivot}
 use Rattle.network_simplex.specs.PathWalk.{CanWalk, passed, Stored, Handed}
@@ -25,6 +28,15 @@ shifted false d u = u - d
 abbrev pub Room : ℕ → Bool → ℕ → ℕ → Type 0
 Room w true d u = u + d < 2 ^ w
 Room w false d u = d ≤ u
+
+-- a word of 32 bits is one of 64
+room-wide : (rises : Bool) (d u : ℕ) → Room 32 rises d u → Room 64 rises d u
+room-wide true d u h = omega arith
+room-wide false d u h = h
+
+shifted-fits : (rises : Bool) (d u : ℕ) → Room 32 rises d u → u < 2 ^ 32 → shifted rises d u < 2 ^ 32
+shifted-fits true d u h l = h
+shifted-fits false d u h l = omega arith
 
 -- ---- one table along a path
 
@@ -81,27 +93,58 @@ pub record TotalsMoved (n : ℕ) (p : List ℕ) (a b c : ℕ) (t u : List ℕ) :
 pub record CanShiftPotential (n subtree : ℕ) (rises : Bool) (d : ℕ) (t : List ℕ) : Type 0 where
   pub few : n ≤ 64
   pub size : n ≤ length t
+  pub word : subtree ≡ mask n (bit subtree)
   pub room : (x : ℕ) → x < n → bit subtree x ≡ true → Room 32 rises d (at t x)
 
--- the numbers below i of the subtree's vertices are raised or lowered by d
-pub record PotentialShifted (subtree : ℕ) (rises : Bool) (d : ℕ) (t u : List ℕ) (i : ℕ) : Type 0 where
+-- the number of x, raised or lowered by d if x is of the subtree
+abbrev pub shiftedWithin : (subtree : ℕ) → Bool → ℕ → List ℕ → ℕ → ℕ
+shiftedWithin subtree rises d t x = cond (bit subtree x) (shifted rises d (at t x)) (at t x)
+
+-- the numbers of the subtree's vertices are raised or lowered by d
+pub record PotentialShifted (subtree : ℕ) (rises : Bool) (d : ℕ) (t u : List ℕ) (n : ℕ) : Type 0 where
   pub size : length u ≡ length t
-  pub done : (x : ℕ) → x < i → at u x ≡ cond (bit subtree x) (shifted rises d (at t x)) (at t x)
-  pub kept : (x : ℕ) → i ≤ x → at u x ≡ at t x
+  pub done : (x : ℕ) → x < n → at u x ≡ shiftedWithin subtree rises d t x
 
-module _ {subtree : ℕ} {rises : Bool} {d : ℕ} where
-  pub potential-none : (t : List ℕ) → PotentialShifted subtree rises d t t 0
-  potential-none t = record { size = refl; done = λ x l. absurd (omega arith); kept = λ x l. refl }
+-- what is left to do makes of u what the subtree makes of t
+pub record ShiftingPotential (n subtree : ℕ) (rises : Bool) (d : ℕ) (t u : List ℕ) (left : ℕ) : Type 0 where
+  pub can : CanShiftPotential n left rises d u
+  pub size : length u ≡ length t
+  pub same : (x : ℕ) → x < n → shiftedWithin left rises d u x ≡ shiftedWithin subtree rises d t x
 
-  pub potential-more : {t u : List ℕ} {i : ℕ} (k : ℕ) → PotentialShifted subtree rises d t u i → i < length t
-      → k ≡ cond (bit subtree i) (shifted rises d (at u i)) (at u i) → PotentialShifted subtree rises d t (set u i k) (i + 1)
-  potential-more {t} {u} {i} k w h e = record {
-    size = length-set u i k ∙ w .size;
-    done = λ x l. case≡ x i
-        (λ g. rw (g, getD-set-same u i k 0 (omega (arith, w .size))) (e ∙ rw (w .kept i (omega arith))))
-        (λ g. getD-set-other u i x k 0 g ∙ w .done x (omega arith));
-    kept = λ x l. getD-set-other u i x k 0 (omega arith) ∙ w .kept x (omega arith);
-  }
+module _ {n subtree : ℕ} {rises : Bool} {d : ℕ} {t : List ℕ} where
+  pub potential-none : CanShiftPotential n subtree rises d t → ShiftingPotential n subtree rises d t t subtree
+  potential-none can = record { can = can; size = refl; same = λ x l. refl }
 
-  pub potential-end : {t u : List ℕ} {i n : ℕ} → PotentialShifted subtree rises d t u i → i ≤ n → n ≤ i → PotentialShifted subtree rises d t u n
-  potential-end {t} {u} {i} {n} w h k = let e : i ≡ n = omega arith in rw e at w
+  module _ {u : List ℕ} {left x : ℕ} (w : ShiftingPotential n subtree rises d t u left) (first : (x ≡ lowest (bit left) n 0) × (x < n)) where
+    pub potential-out : Without n left x ((1 * 2 ^ x) % 2 ^ 64)
+    potential-out = without-lowest n left x (w .can .few) (w .can .word) first
+
+    small : Room 32 rises d (at u x)
+    small = w .can .room x (first .1) (potential-out .has)
+
+    pub potential-room : Room 64 rises d (at u x)
+    potential-room = room-wide rises d (at u x) small
+
+    pub potential-fits : (k : ℕ) → k ≡ shifted rises d (at u x) → at u x < 2 ^ 32 → k < 2 ^ 32
+    potential-fits k e l = rw e (shifted-fits rises d (at u x) small l)
+
+    pub potential-more : (k : ℕ) → k ≡ shifted rises d (at u x) → ShiftingPotential n subtree rises d t (set u x k) (left - (1 * 2 ^ x) % 2 ^ 64)
+    potential-more k e = record {
+      can = record {
+        few = w .can .few;
+        size = rw (length-set u x k) (w .can .size);
+        word = potential-out .word;
+        room = λ y l h.
+            case≡ y x
+            (λ g. clash (rw g at h) (potential-out .gone))
+            (λ g. rw (getD-set-other u x y k 0 g) (w .can .room y l (sym (potential-out .kept y l g) ∙ h)));
+      };
+      size = length-set u x k ∙ w .size;
+      same = λ y l.
+          case≡ y x
+          (λ g. rw (g, potential-out .gone, getD-set-same u x k 0 (omega (arith, w .can .size, first .1))) (e ∙ rw (potential-out .has) at (w .same x (first .1))))
+          (λ g. rw (potential-out .kept y l g, getD-set-other u x y k 0 g) (w .same y l));
+    }
+
+  pub potential-end : {u : List ℕ} {left : ℕ} → ShiftingPotential n subtree rises d t u left → left ≡ 0 → PotentialShifted subtree rises d t u n
+  potential-end {u} {left} w e = record { size = w .size; done = λ x l. rw (e, zero-div (2 ^ x)) at (w .same x l) }

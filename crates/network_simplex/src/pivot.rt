@@ -1,9 +1,7 @@
 // The pivot of the network simplex: a subtree is cut off and hung elsewhere, and every table of the basis follows.
 ghost use mathlib.Core.Path.{_≡_};
-ghost use mathlib.Core.Bool.{true, cond};
-ghost use Prim.Native.Nat.{ℕ, _≤_, _<_};
+ghost use Prim.Native.Nat.{ℕ, _≤_};
 ghost use Rattle.arithmetic.specs.Table.{at};
-ghost use Rattle.arithmetic.specs.Mask.{bit};
 ghost use Rattle.network_simplex.specs.PathReversal.{CanPivot, Pivoted};
 ghost use Rattle.graph.specs.Graph.{Graph};
 ghost use Rattle.network_simplex.specs.PivotPotential.{excess};
@@ -120,24 +118,16 @@ fn move_totals(
     complement_path(n, a, over, total, parents, table);
 }
 
-fn shifted_within(subtree: u64, x: usize, rises: bool, d: u32, u: u32) -> u32
-    requires { ⌜ (x < 64) × (bit subtree x ≡ true → Room 32 rises d u) ⌝ }
-    ensures { λ r. ⌜ r ≡ cond (bit subtree x) (shifted rises d u) u ⌝ }
-{
-    if (subtree >> x) % 2 == 1 {
-        if rises { u + d } else { u - d }
-    } else {
-        u
-    }
-}
-
 // Raises or lowers the potential of each vertex of a subtree, given by its mask, by d.
 fn shift_potential(n: usize, subtree: u64, rises: bool, d: u32, potential: &mut [u32])
     requires { ⌜ CanShiftPotential n subtree rises d (now potential) ⌝ }
     ensures { λ _. ⌜ PotentialShifted subtree rises d (now (potential .entry)) (now (potential .exit)) n ⌝ }
 {
-    for x in 0..n {
-        potential[x] = shifted_within(subtree, x, rises, d, potential[x]);
+    let mut left = subtree;
+    while left != 0 {
+        let x = transport_plan::lowest_vertex(n, left);
+        potential[x] = shifted(rises, d as u64, potential[x] as u64) as u32;
+        left = left - (1u64 << x);
     }
 }
 

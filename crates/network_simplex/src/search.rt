@@ -116,7 +116,7 @@ fn search(
         (now (parents .entry)) (now (above .entry)) (now (supply .entry)) (now (demand .entry)) (now (masks .entry)) (now (potential .entry))
         (now (parents .exit)) (now (above .exit)) (now (supply .exit)) (now (demand .exit)) (now (masks .exit)) (now (potential .exit)) ⌝ }
 {
-    let mut e = entering::entering_edge(a, b, lengths, potential);
+    let mut e = entering::entering_edge(a, b, lengths, potential, 0);
     while e < a.len() {
         improve(
             n,
@@ -131,7 +131,7 @@ fn search(
             masks,
             potential,
         );
-        e = entering::entering_edge(a, b, lengths, potential);
+        e = entering::entering_edge(a, b, lengths, potential, e);
     }
 }
 

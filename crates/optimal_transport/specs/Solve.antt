@@ -6,7 +6,7 @@ use mathlib.Core.List.{List}
 use lib.ListN.{length, getD, drop}
 use lib.Dec.{eqb, leb}
 use lib.IntN.{ℤ, pos}
-use Rattle.arithmetic.specs.Table.{at, matrix, result, written}
+use Rattle.arithmetic.specs.Table.{at, matrix, written}
 use Rattle.graph.specs.Graph.{Graph}
 use Rattle.graph.specs.Checks.{graphRefusal}
 use Rattle.spanning_tree.specs.Checks.{measureRefusal}

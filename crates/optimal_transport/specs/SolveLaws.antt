@@ -8,12 +8,11 @@ use native.Mathlib.Nat.{mul-le-mul, mul-le-mul-right}
 use native.Mathlib.Omega.{arith}
 use lib.Dec.{eqb}
 use lib.IntN.{ℤ, pos, subℕ}
-use lib.ListN.{length, getD, drop, length-append, length-drop, List·getD-append}
-use lib.Seq.{drop-at}
+use lib.ListN.{length, drop}
 use borrow.Author.Tests.{eqb-true, eq-eqb, ne-eqb, lt-leb}
 use Rattle.arithmetic.specs.Bools.{case≤, and-l, and-r}
 use Rattle.arithmetic.specs.Sum.{sum, sum-ext, sum-ge, sum-le-mul, pick}
-use Rattle.arithmetic.specs.Table.{at, tab, matrix, length-tab, tab-at, length-rows}
+use Rattle.arithmetic.specs.Table.{at, tab, matrix, front-at, front-length, front-rest, length-rows}
 use Rattle.rooted_tree.specs.Chain.{climb, below}
 use Rattle.rooted_tree.specs.Rooted.{Rooted}
 use Rattle.rooted_tree.specs.Subtotal.{subtotal}
@@ -236,16 +235,6 @@ flow-tree g r p l mu nu h = sum-ext (g .n) _ _ (λ x k. rw (h x k)) ∙ sym (tre
 
 -- ---- how the best call ends
 
-module _ {A : Type 0} (n : ℕ) (f : ℕ → A) (lent : List A) where
-  filled-at : (d : A) (x : ℕ) → x < n → getD (tab n f ++ drop n lent) x d ≡ f x
-  filled-at d x l = List·getD-append (tab n f) (drop n lent) d x (rw (length-tab n f) l) ∙ tab-at n f d x l
-
-  filled-length : n ≤ length lent → length (tab n f ++ drop n lent) ≡ length lent
-  filled-length h = rw (length-append, length-tab n f, length-drop) (omega arith)
-
-  filled-rest : drop n (tab n f ++ drop n lent) ≡ drop n lent
-  filled-rest = drop-at (tab n f) (drop n lent) n (length-tab n f)
-
 module _ (g : Graph) (mu nu parents : List ℕ) (potentials : List ℤ) (entries : List ℕ) (answers : Bool)
     (room : g .n ≤ 64 → answers ≡ roomOk (g .n) (length parents) (length potentials) (length entries)) where
   -- for more than 64 vertices what is said of the answer tables does not matter
@@ -271,7 +260,7 @@ module _ (g : Graph) (mu nu parents : List ℕ) (potentials : List ℤ) (entries
       module _ {tree' u parents' : List ℕ} {cost : ℕ} (answer : BestAnswer g (at mu) (at nu) tree' u cost)
           (copied : parents' ≡ tab (g .n) (at tree') ++ drop (g .n) parents) where
         same : SameParents (g .n) (at tree') (at parents')
-        same x l = (rw copied (sym (filled-at (g .n) (at tree') parents 0 x l)), answer .best .into x l)
+        same x l = (rw copied (sym (front-at (g .n) (at tree') parents 0 x l)), answer .best .into x l)
 
         certificate : Certificate g (at mu) (at nu) (at parents') (at u)
         certificate = certificate-same g same (answer .best .certificate)
@@ -289,13 +278,13 @@ module _ (g : Graph) (mu nu parents : List ℕ) (potentials : List ℤ) (entries
           accepted = λ _. record {
             best = rw (answer .cost-is, treeCost-same g same 0 (at mu) (at nu))
                 (certificate-best g (checked .start z .accepted) (at mu) (at nu) (at parents') (at u) (checked .start z .same) certificate _
-                (λ y l. rw raised (filled-at (g .n) _ potentials (pos 0) y l)));
+                (λ y l. rw raised (front-at (g .n) _ potentials (pos 0) y l)));
             moves-are = planned .1;
             plan-is = rw (length-rows (g .n) (g .n) (bestPlan g mu nu parents')) (planned .0);
-            parents-long = rw copied (filled-length (g .n) _ parents (room-for .0));
-            parents-rest = rw copied (filled-rest (g .n) _ parents);
-            potentials-long = rw raised (filled-length (g .n) _ potentials (room-for .1 .0));
-            potentials-rest = rw raised (filled-rest (g .n) _ potentials);
+            parents-long = rw copied (front-length (g .n) _ parents (room-for .0));
+            parents-rest = rw copied (front-rest (g .n) _ parents);
+            potentials-long = rw raised (front-length (g .n) _ potentials (room-for .1 .0));
+            potentials-rest = rw raised (front-rest (g .n) _ potentials);
           };
           refused = λ d. absurd (d refl);
         }

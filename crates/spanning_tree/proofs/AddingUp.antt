@@ -7,7 +7,7 @@ use lib.ListN.{length, set, length-set}
 use lib.Seq.{getD-set-same, getD-set-other}
 use borrow.Author.Tests.{ne-eqb}
 use Rattle.arithmetic.specs.Bools.{case≡}
-use Rattle.arithmetic.specs.Sum.{pick, pick-le, sum, sum-step, sum-le}
+use Rattle.arithmetic.specs.Sum.{pick, pick-le, sum, sum-step, sum-le, sum-front}
 use Rattle.arithmetic.specs.Table.{at}
 use Rattle.rooted_tree.specs.Chain.{below}
 use Rattle.rooted_tree.specs.Rooted.{Rooted, at-step, at-root, refl-b, parent-out}
@@ -75,12 +75,6 @@ pub gathered-end : (n : ℕ) (p m : ℕ → ℕ) (old mid new : List ℕ) → Fi
 unfolding subtotal
 gathered-end n p m old mid new w u = record { size = u .size ∙ w .size; each = u .each }
 
--- a sum of the first terms is within the whole sum
-sum-part : (n k : ℕ) (f : ℕ → ℕ) → k ≤ n → sum k f ≤ sum n f
-unfolding sum
-sum-part zero k f h = let e : k ≡ 0 = omega arith in rw e (omega arith)
-sum-part (suc n) k f h = case≡ k (suc n) (λ e. rw e (omega arith)) (λ d. omega (arith, sum-part n k f (omega arith)))
-
 -- one walk more fits
 pub gathered-fits : (n : ℕ) (p m : ℕ → ℕ) (k : ℕ) (old new : List ℕ) → Gathered n p m k old new → k < n → sum n m < 2 ^ 64
     → (x : ℕ) → x < n → at new x + m k < 2 ^ 64
@@ -90,5 +84,5 @@ gathered-fits n p m k old new w h total x l =
       w .each x l,
       sum-le k (λ y. pick (below p n y x) (m y)) m (λ y j. pick-le (below p n y x) (m y)),
       sum-step k m,
-      sum-part n (k + 1) m (omega arith),
+      sum-front (k + 1) n m (omega arith),
     )

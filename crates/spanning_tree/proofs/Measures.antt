@@ -4,15 +4,8 @@ use mathlib.Core.Bool.{and-false}
 use Prim.Native.Nat.{ℕ, zero, suc, _+_, _≤_, _<_, _^_, min}
 use native.Mathlib.Omega.{arith}
 use borrow.Author.Tests.{le-leb, lt-leb, eq-eqb, ne-eqb}
-use Rattle.arithmetic.specs.Bools.{case≡}
 use Rattle.arithmetic.specs.Sum.{sum}
 use Rattle.spanning_tree.specs.Checks.{totalsOk, totalsEqual, measureRefusal}
-
--- the first terms of a sum are at most the whole
-pub sum-front : (m n : ℕ) (f : ℕ → ℕ) → m ≤ n → sum m f ≤ sum n f
-unfolding sum
-sum-front m zero f l = let e : m ≡ 0 = omega arith in rw e (omega arith)
-sum-front m (suc n) f l = case≡ m (suc n) (λ e. rw e (omega arith)) (λ d. omega (arith, sum-front m n f (omega arith)))
 
 -- s and t are the totals, each with a cap
 module _ (n : ℕ) {s t : ℕ} (mu nu : ℕ → ℕ) (hs : s ≡ min (sum n mu) (2 ^ 24 + 1)) (ht : t ≡ min (sum n nu) (2 ^ 24 + 1)) where

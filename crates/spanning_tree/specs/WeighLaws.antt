@@ -16,9 +16,9 @@ use Rattle.arithmetic.specs.Product.{gap, product-eq}
 use Rattle.arithmetic.specs.Table.{at, tab, tab-ext}
 use Rattle.arithmetic.specs.Integer.{sumℤ, pickℤ, sumℤ-ext, sumℤ-sub, pickℤ-sub, sub-cong, sub-zero, zero-sub, sub-same, sub-mul, abs-sub}
 use Rattle.rooted_tree.specs.Chain.{below}
-use Rattle.rooted_tree.specs.Rooted.{Rooted, above, above-root, above-step, tree-ind}
+use Rattle.rooted_tree.specs.Rooted.{Rooted, above, above-root, above-step}
 use Rattle.rooted_tree.specs.Subtotal.{subtotal, inner, by-parts}
-use Rattle.rooted_tree.specs.Flow.{flowCost, height, height-root, height-up, height-down, TreeEdge, same-edges-same-cost}
+use Rattle.rooted_tree.specs.Flow.{flowCost, TreeEdge, same-edges-same-cost}
 use Rattle.graph.specs.Graph.{Graph, edgeLength}
 use Rattle.graph.specs.EdgeLaws.{edgeLength-sym}
 use Rattle.spanning_tree.specs.Walk.{Filled}
@@ -222,34 +222,6 @@ module _ (g : Graph) (r : ℕ) (p mu nu : ℕ → ℕ) (t : Rooted (g .n) r p) w
             sum-add (g .n) (λ x. edge x up B + edge x down A) (λ x. inner r x (toParent g p x * gap (A x) (B x))),
             sum-add (g .n) (λ x. edge x up B) (λ x. edge x down A),
           )
-
-  -- with the sum of all lengths added it is the flow's potential
-  pub potential-height : (y : ℕ) → y < g .n
-      → potential g r p mu nu y ≡ subℕ (height (g .n) r p (toParent g p) mu nu y) (sum (g .n) (toParent g p))
-  potential-height y h = potential-sub g r p mu nu y ∙ sub-cong _ _ _ _ (tree-ind t P base step y h)
-    where
-      l : ℕ → ℕ
-      l = toParent g p
-
-      A : ℕ → ℕ
-      A = subtotal p (g .n) mu
-
-      B : ℕ → ℕ
-      B = subtotal p (g .n) nu
-
-      P : ℕ → Type 0
-      P x = treeRise g r p mu nu x + sum (g .n) l ≡ height (g .n) r p l mu nu x + treeFall g r p mu nu x
-
-      base : P r
-      base = omega (arith, climbed-root t (rising l A B), climbed-root t (falling l A B), height-root t l mu nu)
-
-      step : (x : ℕ) → x < g .n → (x ≡ r → ⊥) → P (p x) → P x
-      step x k d ih =
-          let R = climbed-step t (rising l A B) x k d in
-          let F = climbed-step t (falling l A B) x k d in
-          case≤ (B x) (A x)
-          (λ o. omega (arith, ih, rw (le-leb (B x) (A x) o) at R, rw (le-ltb (A x) (B x) o) at F, height-up t l mu nu x k d o))
-          (λ o. omega (arith, ih, rw (lt-leb (B x) (A x) o) at R, rw (lt-ltb (A x) (B x) o) at F, height-down t l mu nu x k d o))
 
 -- ---- the cost does not depend on the root
 

@@ -6,13 +6,12 @@ use Prim.Native.Nat.{ℕ, _+_, _-_, _*_, _≤_, _<_, _^_, min}
 use native.Mathlib.Nat.{le-antisymm}
 use native.Mathlib.Omega.{arith}
 use lib.Dec.{eqb, ltb}
-use lib.ListN.{length, drop, set, length-set, length-drop, length-append, List·getD-append}
-use lib.Seq.{drop-at}
+use lib.ListN.{length, drop, set, length-set}
 use borrow.Author.Count.{below-more}
 use borrow.Author.Tests.{eq-eqb, ne-eqb, lt-ltb, le-ltb}
 use Rattle.arithmetic.specs.Bools.{case, case≡, case<, eqb-self}
 use Rattle.arithmetic.specs.Sum.{pick, pick-le, sum-ge}
-use Rattle.arithmetic.specs.Table.{at, cell, tab, matrix, length-tab, tab-at, cell-below}
+use Rattle.arithmetic.specs.Table.{at, cell, tab, matrix, front-at, front-length, front-rest, cell-below}
 use Rattle.arithmetic.specs.Matrix.{filled-by}
 use Rattle.transport_plan.specs.Plan.{changed, started, layers}
 use Rattle.transport_plan.specs.Plan as Plan
@@ -29,8 +28,8 @@ clear-end n size place lent plan e l k h = rw (le-antisymm l k ∙ e) at h
 module _ (n : ℕ) (lent plan : List ℕ) (room : n * n ≤ length lent) (e : plan ≡ tab (n * n) (λ _. 0) ++ drop (n * n) lent) where
   cleared-lent : AsLent n lent plan
   cleared-lent = record {
-    long = rw (e, length-append, length-tab {A = ℕ} (n * n) (λ _. 0), length-drop) (omega arith);
-    rest = rw e (drop-at (tab (n * n) (λ _. 0)) _ (n * n) (length-tab {A = ℕ} (n * n) (λ _. 0)));
+    long = rw e (front-length (n * n) (λ _. 0) lent room);
+    rest = rw e (front-rest (n * n) (λ _. 0) lent);
   }
 
   -- a cleared table is a start at no vertex
@@ -47,9 +46,7 @@ module _ (n : ℕ) (lent plan : List ℕ) (room : n * n ≤ length lent) (e : pl
     where
       zero-at : (i j : ℕ) → i < n → j < n → cell n plan i j ≡ 0
       zero-at i j hi hj =
-          let l = cell-below n i j hi hj in
-          rw e (List·getD-append (tab (n * n) (λ _. 0)) (drop (n * n) lent) 0 (i * n + j) (rw (length-tab {A = ℕ} (n * n) (λ _. 0)) l)
-          ∙ tab-at (n * n) (λ _. 0) 0 (i * n + j) l)
+          rw e (front-at (n * n) (λ _. 0) lent 0 (i * n + j) (cell-below n i j hi hj))
 
 -- ---- the shared amounts
 

@@ -1,8 +1,8 @@
 -- Words of vertices: two words joined, the lowest vertex of one, and a vertex taken out.
 use mathlib.Core.Path.{_≡_, refl, sym, ap, _∙_}
-use mathlib.Core.Bool.{Bool, true, false, not, cond, _&&_}
+use mathlib.Core.Bool.{Bool, true, false, cond, _&&_}
 use Prim.Native.Nat.{ℕ, zero, suc, _+_, _-_, _*_, _/_, _%_, _≤_, _<_, _^_}
-use native.Mathlib.Nat.{mod-lt, div-one, zero-add, one-mul, le-antisymm}
+use native.Mathlib.Nat.{mod-lt, div-one, zero-add, le-antisymm}
 use native.Mathlib.Numerals.{add-one}
 use native.Mathlib.Omega.{arith}
 use lib.Bits.{bitAnd, bitOr, and-block, and-zero-l, or-shifted-r}
@@ -10,20 +10,13 @@ use lib.Count.{trailingZeros, under}
 use lib.Dec.{eqb, ltb, lit<}
 use lib.Pow.{pow-pos, shr-shr, shl-exact}
 use borrow.Author.Tests.{ne-eqb, eq-eqb, lt-ltb, le-ltb}
-use Rattle.arithmetic.specs.Bools.{case, case≡, case<, eqb-self}
+use Rattle.arithmetic.specs.Bools.{case, case<}
 use Rattle.arithmetic.specs.Sum.{pick}
-use Rattle.arithmetic.specs.Mask.{bit, mask, mask-lt, mask-ext, bit-mask}
+use Rattle.arithmetic.specs.Mask.{bit, mask, mask-lt, mask-has, shl-one}
 use Rattle.transport_plan.specs.Plan.{lowest}
 use Rattle.transport_plan.specs.PlanRun.{lowest-found, lowest-none}
 
 -- ---- masks
-
-shl-one : (x : ℕ) → x < 64 → (1 * 2 ^ x) % 2 ^ 64 ≡ 2 ^ x
-shl-one x h = shl-exact 1 x 64 (lit< tt) (omega arith) ∙ one-mul _
-
--- the bits of a mask are its test's
-pub mask-bits : (n : ℕ) (f : ℕ → Bool) (w : ℕ) → w ≡ mask n f → w ≡ mask n (bit w)
-mask-bits n f w e = e ∙ mask-ext n f (bit w) (λ i l. sym (bit-mask n f i l) ∙ ap (λ (x : ℕ). bit x i) (sym e))
 
 pub and-masks : (n : ℕ) (f g : ℕ → Bool) → bitAnd (mask n f) (mask n g) ≡ mask n (λ x. f x && g x)
 unfolding mask
@@ -40,21 +33,6 @@ and-masks (suc m) f g =
     join true true = omega arith
     join true false = omega arith
     join false t = omega arith
-
--- a mask is that without x, and x
-pub mask-take : (n : ℕ) (f : ℕ → Bool) (x : ℕ) → x < n → f x ≡ true → mask n f ≡ mask n (λ y. f y && not (eqb y x)) + 2 ^ x
-unfolding mask
-mask-take zero f x l e = absurd (omega arith)
-mask-take (suc m) f x l e =
-    case≡ x m
-    (λ h. rw (← h, e, eqb-self x, mask-ext x f (λ y. f y && not (eqb y x)) (λ y k. same y (λ z. omega arith))) (omega arith))
-    (λ h. rw (mask-take m f x (omega arith) e, ← same m (λ z. h (sym z))) (omega arith))
-  where
-    same : (y : ℕ) → (y ≡ x → ⊥) → f y ≡ f y && not (eqb y x)
-    same y d = rw (ne-eqb y x d) (case (f y) (λ z. cc) (λ z. cc))
-
-pub mask-has : (n : ℕ) (f : ℕ → Bool) (x : ℕ) → x < n → f x ≡ true → 2 ^ x ≤ mask n f
-mask-has n f x l e = omega (arith, mask-take n f x l e)
 
 mask-empty : (n : ℕ) (f : ℕ → Bool) → ((x : ℕ) → x < n → f x ≡ false) → mask n f ≡ 0
 unfolding mask

@@ -247,6 +247,3 @@ module _ {n r : ℕ} {p : ℕ → ℕ} (t : Rooted n r p) (mu nu : ℕ → ℕ) 
     -- an entry is at most its row's mass, and so the total
     pub plan-bound : (i j : ℕ) → i < n → j < n → plan n r p mu nu i j ≤ mu i
     plan-bound i j li lj = omega (arith, plan-rows i li, sum-ge n j (λ j. plan n r p mu nu i j) lj)
-
-    pub plan-total : (i j : ℕ) → i < n → j < n → plan n r p mu nu i j ≤ sum n mu
-    plan-total i j li lj = omega (arith, plan-bound i j li lj, sum-ge n i mu li)

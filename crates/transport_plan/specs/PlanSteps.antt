@@ -76,6 +76,10 @@ pub record StartedTo (n x : ℕ) (mu nu lent s d plan : List ℕ) : Type 0 where
   pub long-d : n ≤ length d
   pub kept : AsLent n lent plan
 
+-- 1 where i sends anything to j, else 0
+unfoldable pub positiveAt : (ℕ → ℕ → ℕ) → ℕ → ℕ → ℕ
+positiveAt t i j = pick (ltb 0 (t i j)) 1
+
 -- 1 where what i sends to j is a move, else 0
 unfoldable pub moveAt : (ℕ → ℕ → ℕ) → ℕ → ℕ → ℕ
 moveAt t i j = pick (not (eqb i j) && ltb 0 (t i j)) 1

@@ -1,7 +1,7 @@
 // The plan of a tree: each vertex's surplus is sent to deficits, by falling depth.
 ghost use mathlib.Core.Path.{_≡_};
 ghost use mathlib.Core.List.{_++_};
-ghost use Prim.Native.Nat.{ℕ, _+_, _*_, _-_, _≤_, _<_, _^_, min};
+ghost use Prim.Native.Nat.{ℕ, _+_, _*_, _-_, _≤_, _<_, _^_, min, max};
 ghost use lib.Dec.{eqb, ltb};
 ghost use lib.ListN.{length, drop};
 ghost use Rattle.arithmetic.specs.Sum.{sum, pick};
@@ -9,9 +9,9 @@ ghost use Rattle.arithmetic.specs.Table.{at, cell, tab, matrix};
 ghost use Rattle.arithmetic.specs.Mask.{bit, mask};
 ghost use Rattle.transport_plan.specs.Plan.{sends, lowest, settled, layer, layers, moves};
 ghost use Rattle.transport_plan.specs.Plan as Plan;
-ghost use Rattle.transport_plan.specs.PlanSteps.{Walked, Measures, making, positive, Held, Holds, StartedTo, moveAt};
+ghost use Rattle.transport_plan.specs.PlanSteps.{Walked, Measures, making, positive, Held, Holds, StartedTo, positiveAt, moveAt};
 
-// The smaller of two amounts.
+// The smaller of two numbers.
 fn smaller(a: u32, b: u32) -> u32
     ensures { λ r. ⌜ r ≡ min a b ⌝ }
 {
@@ -19,7 +19,7 @@ fn smaller(a: u32, b: u32) -> u32
 }
 
 // The lowest vertex of a word that has one.
-fn lowest_vertex(n: usize, word: u64) -> usize
+pub fn lowest_vertex(n: usize, word: u64) -> usize
     requires { ⌜ (n ≤ 64) × (word ≡ mask n (bit word)) × (word ≡ 0 → ⊥) ⌝ }
     ensures { λ r. ⌜ (r ≡ lowest (bit word) n 0) × (r < n) ⌝ }
 {
@@ -124,6 +124,25 @@ fn take_layer(
     }
 }
 
+// The larger of two depths.
+fn larger(x: u32, y: u32) -> u32
+    ensures { λ r. ⌜ r ≡ max x y ⌝ }
+{
+    if x < y { y } else { x }
+}
+
+// How many layers are taken: one more than the largest depth. Depth n, of chains that miss the root, is left out.
+fn layer_count(n: usize, depth: &[u32]) -> u32
+    requires { ⌜ (n ≤ 64) × (n ≤ length (now depth)) × ((x : ℕ) → x < n → at (now depth) x ≤ n) ⌝ }
+    ensures { λ r. ⌜ (r ≤ n) × ((x : ℕ) → x < n → at (now (depth .entry)) x < n → at (now (depth .entry)) x < r) ⌝ }
+{
+    let mut deepest: u32 = 0;
+    for x in 0..n {
+        deepest = larger(deepest, depth[x]);
+    }
+    smaller(deepest + 1, n as u32)
+}
+
 // All vertices, by falling depth.
 fn take_layers(
     n: usize,
@@ -143,7 +162,7 @@ fn take_layers(
         (layers n root (at (now (parents .entry))) n (making n (now (plan .entry)) (now (surplus .entry)) (now (deficit .entry))))
         (now (plan .entry)) (now (senders .exit)) (now (receivers .exit)) (now (surplus .exit)) (now (deficit .exit)) (now (plan .exit)) ⌝ }
 {
-    let depths = n as u32;
+    let depths = layer_count(n, depth);
     let mut done: u32 = 0;
     while done < depths {
         done += 1;
@@ -253,27 +272,25 @@ pub fn fill_plan(
     );
 }
 
-// Whether what i sends to j is a move, as 0 or 1.
-fn move_at(n: usize, i: usize, j: usize, plan: &[u32]) -> u32
+// Whether i sends anything to j, as 0 or 1.
+fn positive_at(n: usize, i: usize, j: usize, plan: &[u32]) -> u32
     requires { ⌜ (n ≤ 64) × (i < n) × (j < n) × (n * n ≤ length (now plan)) ⌝ }
-    ensures { λ r. ⌜ r ≡ moveAt (cell n (now (plan .entry))) i j ⌝ }
+    ensures { λ r. ⌜ r ≡ positiveAt (cell n (now (plan .entry))) i j ⌝ }
 {
-    if i == j {
-        return 0;
-    }
     if 0 < plan[place(n, i, j)] { 1 } else { 0 }
 }
 
-// How many vertices i sends to.
+// How many vertices other than itself i sends to.
 fn count_row(n: usize, i: usize, plan: &[u32]) -> u32
     requires { ⌜ (n ≤ 64) × (i < n) × (n * n ≤ length (now plan)) ⌝ }
     ensures { λ r. ⌜ r ≡ sum n (moveAt (cell n (now (plan .entry))) i) ⌝ }
 {
     let mut count: u32 = 0;
     for j in 0..n {
-        count += move_at(n, i, j, plan);
+        count += positive_at(n, i, j, plan);
     }
-    count
+    let own = positive_at(n, i, i, plan);
+    count - own
 }
 
 // How many moves a plan has.

@@ -4,19 +4,18 @@ use mathlib.Core.Path.{_≡_, refl, sym, ap, _∙_}
 use mathlib.Core.Bool.{Bool, true, false, not, cond, _&&_, _||_}
 use native.Mathlib.Omega.{arith}
 use lib.Dec.{eqb, ltb}
-use lib.IntN.{ℤ, _*ℤ_}
+use lib.IntN.{ℤ}
 use borrow.Author.Tests.{ltb-true, le-ltb}
 use Rattle.arithmetic.specs.Bools.{case, case<, all, all-at, and-l, and-r}
-use Rattle.arithmetic.specs.Sum.{sum, sum-ext}
-use Rattle.arithmetic.specs.Integer.{sumℤ, sumℤ-ext}
+use Rattle.arithmetic.specs.Sum.{sum-ext}
+use Rattle.arithmetic.specs.Integer.{sumℤ-ext}
 use Rattle.rooted_tree.specs.Chain.{climb, below, depth}
 use Rattle.graph.specs.Graph.{Graph}
 use Rattle.graph.specs.Distance.{distance}
-use Rattle.graph.specs.Checks.{check}
 use Rattle.spanning_tree.specs.Checks.{totalsOk, totalsEqual, measureRefusal, parentsOk, treeEdgesOk, chainsOk, treeRefusal}
 use Rattle.spanning_tree.specs.Weigh.{imbalance, potential, treeCost}
 use Rattle.transport_plan.specs.Plan.{Making, started, sends, sender, receiver, lowest, moved, settled, layer, layers, plan}
-use Rattle.duality.specs.Best.{Plan, planCost, Best}
+use Rattle.duality.specs.Best.{planCost, Best}
 
 -- f and g agree below n
 abbrev pub Same : {A : Type 0} → ℕ → (ℕ → A) → (ℕ → A) → Type 0

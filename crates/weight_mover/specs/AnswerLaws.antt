@@ -2,7 +2,7 @@
 use Prim.Native.Nat.{ℕ, zero, suc, _*_, _≤_, _<_}
 use mathlib.Core.Path.{_≡_, refl, sym, ap, _∙_}
 use mathlib.Core.Bool.{Bool, true, false, cond, _&&_, and-false}
-use mathlib.Core.List.{List, _++_}
+use mathlib.Core.List.{List}
 use native.Mathlib.Nat.{mul-le-mul}
 use native.Mathlib.Omega.{arith}
 use lib.Dec.{leb}
@@ -12,8 +12,8 @@ use lib.Seq.{take-at}
 use borrow.Author.Tests.{eq-eqb, le-leb, lt-leb, leb-true}
 use Rattle.arithmetic.specs.Bools.{case, clash}
 use Rattle.arithmetic.specs.Sum.{pick}
-use Rattle.arithmetic.specs.Table.{at, tab, matrix, written, length-tab, tab-at, rows-ext}
-use Rattle.graph.specs.Graph.{Graph, graph}
+use Rattle.arithmetic.specs.Table.{at, tab, written, length-tab, tab-at, rows-ext}
+use Rattle.graph.specs.Graph.{graph}
 use Rattle.graph.specs.Checks.{verticesOk, listsOk, check, graphRefusal}
 use Rattle.graph.specs.Accepted.{vertices-in, check-passed, not-refused}
 use Rattle.spanning_tree.specs.Checks.{totalsOk, totalsEqual, measureRefusal, parentsOk, treeRefusal}
@@ -24,7 +24,7 @@ use Rattle.image.specs.Image.{sizeOk, sectionsOk, layoutOk, hasTree, vertexCoun
 use Rattle.image.specs.Read.{Lists, roomOk, readRefusal, Read}
 use Rattle.image.specs.ReadLaws.{Accepted, accepted, image-passes}
 use Rattle.weight_mover.specs.Record.{recordSize}
-use Rattle.weight_mover.specs.Run.{graphOf, answerRefusal, entryOf, imagePlan}
+use Rattle.weight_mover.specs.Run.{graphOf, answerRefusal, imagePlan}
 use Rattle.weight_mover.specs.RecordLaws.{plan-entry}
 use Rattle.weight_mover.specs.Agree.{Same, SameTree, itself, same-tree, treeCost-same, potential-same, plan-same, measures-same, parents-into, tree-same, best-same}
 use Rattle.weight_mover.specs.Answer.{WeighedFront, Weighed, Found, Answered}

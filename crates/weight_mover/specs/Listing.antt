@@ -1,12 +1,10 @@
 -- Document 01, "listing": what the program prints, byte for byte.
 use Prim.Native.Nat.{ℕ, zero, suc, _+_, _/_, _%_}
 use mathlib.Core.Path.{_≡_}
-use mathlib.Core.Bool.{Bool, true, false, cond}
+use mathlib.Core.Bool.{true, false, cond}
 use mathlib.Core.List.{List, [], _∷_, _++_}
-use lib.ListN.{length}
 use lib.Dec.{ltb}
 use lib.IntN.{ℤ}
-use Rattle.arithmetic.specs.Table.{written}
 use Rattle.transport_plan.specs.Plan.{moves}
 use Rattle.duality.specs.Best.{Best}
 use Rattle.image.specs.Image.{hasTree, vertexCount, amountBefore, amountAfter, rootOf, parentOf}

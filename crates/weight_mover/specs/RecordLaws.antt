@@ -9,7 +9,7 @@ use lib.ListN.{length, drop, set, length-append, List·getD-append}
 use lib.Seq.{sets-eq}
 use lib.IntN.{ℤ}
 use borrow.Rule.Slice.PartMut.{midOf, putMid}
-use Rattle.arithmetic.specs.Table.{at, tab, rows, matrix, cell, length-tab, length-rows, rows-at, rows-ext, cell-below, written}
+use Rattle.arithmetic.specs.Table.{at, tab, rows, matrix, length-tab, length-rows, rows-ext, written}
 use Rattle.weight_mover.specs.Record.{byteOf, fields, signed, record-bytes, recordSize}
 use Rattle.weight_mover.specs.Run.{entryOf}
 use Rattle.weight_mover.specs.Placed.{placed, placed-none, placed-front, placed-then, placed-part}
@@ -119,6 +119,3 @@ record-ext n cost moves root p q u v e f hp hu he =
 pub plan-entry : (n : ℕ) (t : ℕ → ℕ → ℕ) (l lent : List ℕ) → l ≡ written 0 (matrix n t) lent → (c : ℕ) → c < n * n → at l c ≡ entryOf n t c
 plan-entry n t l lent e c h =
     rw e (List·getD-append (matrix n t) (drop (length (matrix n t)) lent) 0 c (rw (length-rows n n t) h))
-
-pub plan-cell : (n : ℕ) (t : ℕ → ℕ → ℕ) (l lent : List ℕ) → l ≡ written 0 (matrix n t) lent → (i j : ℕ) → i < n → j < n → cell n l i j ≡ t i j
-plan-cell n t l lent e i j h k = plan-entry n t l lent e (i * n + j) (cell-below n i j h k) ∙ rows-at n n t 0 i j h k

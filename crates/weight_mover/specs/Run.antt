@@ -1,11 +1,11 @@
 -- The exported entry: its refusal number, and its whole outcome. s is the image's bytes.
-use Prim.Native.Nat.{ℕ, _*_}
+use Prim.Native.Nat.{ℕ}
 use mathlib.Core.Path.{_≡_}
-use mathlib.Core.Bool.{Bool, true, false, cond, _&&_}
+use mathlib.Core.Bool.{Bool, true, false, cond}
 use mathlib.Core.List.{List}
 use lib.ListN.{length}
 use lib.Dec.{leb}
-use lib.IntN.{ℤ, pos}
+use lib.IntN.{ℤ}
 use Rattle.arithmetic.specs.Table.{at, tab, matrix, written}
 use Rattle.graph.specs.Graph.{Graph, graph}
 use Rattle.graph.specs.Checks.{graphRefusal}

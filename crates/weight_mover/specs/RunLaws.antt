@@ -1,7 +1,7 @@
 -- How the host record and the listing follow from the answer to an image.
 use Prim.Native.Nat.{ℕ, _+_, _*_, _≤_, _<_}
 use mathlib.Core.Path.{_≡_, refl, sym, ap, _∙_}
-use mathlib.Core.Bool.{Bool, true, false, _&&_, and-false}
+use mathlib.Core.Bool.{Bool, true, false, and-false}
 use mathlib.Core.List.{List, _++_}
 use native.Mathlib.Nat.{mul-le-mul}
 use native.Mathlib.Omega.{arith}
@@ -16,8 +16,8 @@ use Rattle.graph.specs.Accepted.{not-refused}
 use Rattle.image.specs.Image.{hasTree, vertexCount, rootOf, parentOf}
 use Rattle.image.specs.ReadLaws.{image-passed}
 use Rattle.weight_mover.specs.Record.{record-bytes, recordSize}
-use Rattle.weight_mover.specs.Run.{graphOf, answerRefusal, entryOf, imagePlan, weighedRecord, Ran}
-use Rattle.weight_mover.specs.Listing.{line, costWord, movesWord, bestWord, refusedWord, planLines, weighedListing, Listing}
+use Rattle.weight_mover.specs.Run.{graphOf, answerRefusal, imagePlan, weighedRecord, Ran}
+use Rattle.weight_mover.specs.Listing.{line, costWord, movesWord, bestWord, refusedWord, planLines, weighedListing}
 use Rattle.weight_mover.specs.RecordLaws.{record-ext}
 use Rattle.weight_mover.specs.ListingLaws.{plan-ext}
 use Rattle.weight_mover.specs.Answer.{Answered, Listed}

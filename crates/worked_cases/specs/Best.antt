@@ -1,26 +1,25 @@
 -- What a case's certificate shows: the best cost, for all plans and all spanning trees, and the judgment.
-use Prim.Native.Nat.{ℕ, _≤_, _<_}
+use Prim.Native.Nat.{ℕ}
 use mathlib.Core.Path.{_≡_, refl, sym, ap, _∙_}
 use mathlib.Core.Bool.{true, _&&_}
 use mathlib.Core.Logic.{_⊎_, inl, inr}
 use native.Mathlib.Omega.{arith}
-use lib.Dec.{eqb, ltb, leb}
-use lib.IntN.{ℤ, pos, negsuc, natAbs, _-ℤ_, _*ℤ_}
+use lib.Dec.{eqb, ltb}
+use lib.IntN.{ℤ, pos, negsuc}
 use borrow.Author.Tests.{eqb-true, ltb-true, leb-true}
 use Rattle.arithmetic.specs.Bools.{and-l, and-r, or-elim, clash, all, all-at}
 use Rattle.arithmetic.specs.Sum.{sum}
-use Rattle.arithmetic.specs.Integer.{sumℤ}
 use Rattle.arithmetic.specs.Table.{at}
 use Rattle.graph.specs.Graph.{Graph, edges}
 use Rattle.graph.specs.Accepted.{Accepted}
 use Rattle.spanning_tree.specs.Checks.{treeRefusal}
 use Rattle.spanning_tree.specs.TreeTests.{accepted-spanning}
-use Rattle.spanning_tree.specs.Weigh.{difference, treeCost}
+use Rattle.spanning_tree.specs.Weigh.{treeCost}
 use Rattle.transport_plan.specs.Plan.{plan}
 use Rattle.duality.specs.Best.{Best, LeastTree}
 use Rattle.optimal_transport.specs.Judge.{CheaperTree}
 use Rattle.duality.specs.BestLaws.{certified-best}
-use Rattle.worked_cases.specs.Figures.{Certificate, sameℤ, potentialOf, withinEdge, weight, certifies, said, judges}
+use Rattle.worked_cases.specs.Figures.{Certificate, sameℤ, potentialOf, withinEdge, certifies, said, judges}
 
 sameℤ-eq : (x y : ℤ) → sameℤ x y ≡ true → x ≡ y
 sameℤ-eq (pos a) (pos b) h = ap pos (eqb-true a b h)

@@ -8,12 +8,11 @@ use lib.IntN.{ℤ, pos, negsuc, natAbs, _-ℤ_, _*ℤ_}
 use Rattle.arithmetic.specs.Bools.{all}
 use Rattle.arithmetic.specs.Integer.{sumℤ}
 use Rattle.arithmetic.specs.Table.{at, tab, matrix}
-use Rattle.graph.specs.Graph.{Graph, graph, edges}
-use Rattle.graph.specs.Checks.{graphRefusal}
+use Rattle.graph.specs.Graph.{Graph, edges}
 use Rattle.spanning_tree.specs.Checks.{treeRefusal}
 use Rattle.spanning_tree.specs.Weigh.{difference, imbalance, potential, treeCost}
 use Rattle.transport_plan.specs.Plan.{moves}
-use Rattle.spanning_tree.specs.Evaluate.{Given, given, givenRefusal, treePlan}
+use Rattle.spanning_tree.specs.Evaluate.{Given, givenRefusal, treePlan}
 use Rattle.image.specs.Read.{lists, readRefusal}
 
 -- a figure that the document gives, or is silent on

@@ -5,6 +5,8 @@
 //! Each solver starts from the image and builds its graph from it. The weight mover also checks the image
 //! and fills the whole record: tree, potential and the n × n plan. LEMON finds the flow on the arcs.
 
+mod pivots;
+
 use reference::checks::accept;
 use reference::flow::least_cost;
 use reference::random::{connected, grid, measures, Lengths, Measures, Random};
@@ -86,6 +88,28 @@ fn median(mut list: Vec<f64>) -> f64 {
     list[list.len() / 2]
 }
 
+/// The pivots of the search, counted by its transcription, which must end with the record's tree and potential.
+fn pivots(problem: &Problem, record: &[u8]) -> f64 {
+    let n = problem.n;
+    let ended = pivots::search(problem);
+    let (parents, rest) = record[13..].split_at(n);
+    let potential = rest[..4 * n]
+        .chunks(4)
+        .map(|b| i32::from_le_bytes([b[0], b[1], b[2], b[3]]));
+    assert!(
+        parents.iter().map(|&p| usize::from(p)).eq(ended.parents),
+        "the trees agree"
+    );
+    let origin = ended.potential[0];
+    assert!(
+        potential
+            .map(i64::from)
+            .eq(ended.potential.iter().map(|u| u - origin)),
+        "the potentials agree"
+    );
+    ended.pivots as f64
+}
+
 /// Microseconds of one call, and its result.
 fn timed(call: impl FnOnce() -> u64) -> (f64, u64) {
     let start = Instant::now();
@@ -118,13 +142,13 @@ fn main() {
     let seed = arguments.next().unwrap_or(1);
 
     println!("{patches} patches of each class, seed {seed}. Of each solver the median of {ROUNDS} calls on each patch, then");
-    println!("the median over the patches, in microseconds. A ratio above 1: mover_run is the faster. All costs agree.");
+    println!("the median over the patches, in microseconds. A ratio below 1: mover_run is the faster. All costs agree.");
     println!();
-    println!("| patches | mover_run | LEMON | plain Rust | LEMON / mover_run | plain / mover_run |");
-    println!("|---|---:|---:|---:|---:|---:|");
+    println!("| patches | pivots | mover_run | LEMON | plain Rust | mover_run / LEMON | mover_run / plain |");
+    println!("|---|---:|---:|---:|---:|---:|---:|");
     for class in &CLASSES {
         let random = &mut Random::new(seed);
-        let times: Vec<[f64; 3]> = (0..patches)
+        let results: Vec<([f64; 3], f64)> = (0..patches)
             .map(|_| {
                 let n = class.vertices;
                 let edges = (class.edges)(random);
@@ -137,14 +161,16 @@ fn main() {
                     tree: None,
                 };
                 let mut record = vec![0; record_size(n)];
-                measure(&problem.image(), &mut record)
+                let times = measure(&problem.image(), &mut record);
+                (times, pivots(&problem, &record))
             })
             .collect();
-        let column = |k: usize| median(times.iter().map(|t| t[k]).collect());
-        let ratio = |k: usize| median(times.iter().map(|t| t[k] / t[0]).collect());
+        let column = |k: usize| median(results.iter().map(|(t, _)| t[k]).collect());
+        let ratio = |k: usize| median(results.iter().map(|(t, _)| t[0] / t[k]).collect());
         println!(
-            "| {} | {:.1} | {:.1} | {:.1} | {:.2} | {:.2} |",
+            "| {} | {:.0} | {:.1} | {:.1} | {:.1} | {:.2} | {:.2} |",
             class.name,
+            median(results.iter().map(|r| r.1).collect()),
             column(0),
             column(1),
             column(2),

@@ -1,13 +1,13 @@
 use Prim.Native.Nat.{_≤_, _-_}
 use native.Mathlib.Omega.{arith}
 use Rattle.arithmetic.specs.Table.{cell}
-use Rattle.transport_plan.specs.PlanSteps.{moveAt}
-use Rattle.transport_plan.proofs.PlanCount.{Counted, counted-none, counted-more, counted-end, move-one}
+use Rattle.transport_plan.specs.PlanSteps.{positiveAt}
+use Rattle.transport_plan.proofs.PlanCount.{Counted, counted-none, counted-more, positive-one, row-moves}
 use Rattle.transport_plan.proofs.count_row.Statement.{statement}
 use Rattle.transport_plan.proofs.count_row.Tie as tie
 
 abbrev Inv-loop : tie.InvT-loop
-Inv-loop n i plan count₀ j₀ count j = (j ≤ n) × Counted j 1 (moveAt (cell n plan) i) count
+Inv-loop n i plan count₀ j₀ count j = (j ≤ n) × Counted j 1 (positiveAt (cell n plan) i) count
 
 abbrev μ-loop : tie.MeasureT-loop
 μ-loop n i plan count₀ j₀ count j = n - j
@@ -15,11 +15,11 @@ abbrev μ-loop : tie.MeasureT-loop
 loop-holds : tie.Need-loop-holds Inv-loop μ-loop
 loop-holds c = (omega arith, counted-none _ _)
 
-move-at-requires : tie.Need-move-at-requires Inv-loop μ-loop
-move-at-requires c κs = omega arith
+positive-at-requires : tie.Need-positive-at-requires Inv-loop μ-loop
+positive-at-requires c κs = omega arith
 
 add-count : tie.Need-add-count Inv-loop μ-loop
-add-count c = omega (arith, c .before .before .loop .inv .1 .few, move-one _ _ _ _ (c .move-at .ensures))
+add-count c = omega (arith, c .before .before .loop .inv .1 .few, positive-one _ _ _ _ (c .positive-at .ensures))
 
 add-j : tie.Need-add-j Inv-loop μ-loop
 add-j c = omega arith
@@ -28,10 +28,20 @@ loop-less : tie.Need-loop-less Inv-loop μ-loop
 loop-less c = omega arith
 
 loop-again : tie.Need-loop-again Inv-loop μ-loop
-loop-again c = (omega arith, counted-more _ _ _ _ _ (c .before .before .loop .inv .1) (c .move-at .ensures) (move-one _ _ _ _ (c .move-at .ensures)))
+loop-again c = (omega arith, counted-more _ _ _ _ _ (c .before .before .loop .inv .1) (c .positive-at .ensures) (positive-one _ _ _ _ (c .positive-at .ensures)))
+
+positive-at-requires-2 : tie.Need-positive-at-requires-2 Inv-loop μ-loop
+positive-at-requires-2 c κs = omega arith
+
+sub-result : tie.Need-sub-result Inv-loop μ-loop
+sub-result c =
+    let v = c .before .before .loop .inv in
+    omega (arith, row-moves _ _ _ _ _ _ (c .before .before .before .before .pre .1) (v .0) (c .before .loop-test .left) (v .1) (c .positive-at2 .ensures))
 
 returns : tie.Need-returns Inv-loop μ-loop
-returns c = counted-end _ _ _ _ _ (c .before .loop .inv .0) (c .loop-test .left) (c .before .loop .inv .1) .is
+returns c =
+    let v = c .before .before .loop .inv in
+    omega (arith, row-moves _ _ _ _ _ _ (c .before .before .before .before .pre .1) (v .0) (c .before .loop-test .left) (v .1) (c .positive-at2 .ensures))
 
 pub count-row-spec : {M : Type 1} → statement M
 count-row-spec =
@@ -40,9 +50,11 @@ count-row-spec =
     Inv-loop
     μ-loop
     loop-holds
-    move-at-requires
+    positive-at-requires
     add-count
     add-j
     loop-less
     loop-again
+    positive-at-requires-2
+    sub-result
     returns)

@@ -2,7 +2,7 @@ use Prim.Native.Nat.{_≤_, _-_}
 use native.Mathlib.Omega.{arith}
 use Rattle.arithmetic.specs.Table.{at}
 use Rattle.transport_plan.specs.PlanSteps.{making}
-use Rattle.transport_plan.proofs.PlanLayers.{Layering, layering-none, layering-more, layering-end}
+use Rattle.transport_plan.proofs.PlanLayers.{walked-le, Layering, layering-none, layering-more, layering-end}
 use Rattle.transport_plan.proofs.take_layers.Statement.{statement}
 use Rattle.transport_plan.proofs.take_layers.Tie as tie
 
@@ -13,11 +13,15 @@ Inv-loop n root parents depth masks senders₀ receivers₀ surplus₀ deficit�
 abbrev μ-loop : tie.MeasureT-loop
 μ-loop n root parents depth masks senders₀ receivers₀ surplus₀ deficit₀ plan₀ depths done₀ senders receivers surplus deficit plan done = depths - done
 
-cast-depths : tie.Need-cast-depths Inv-loop μ-loop
-cast-depths c = omega arith
+layer-count-requires : tie.Need-layer-count-requires Inv-loop μ-loop
+layer-count-requires c κs =
+    let w = c .before .before .before .before .pre .0 in
+    (w .small, w .long-depths, walked-le _ _ _ _ _ w)
 
 loop-holds : tie.Need-loop-holds Inv-loop μ-loop
-loop-holds c = (omega arith, layering-none _ _ _ _ _ _ _ _ _ (omega arith) (c .before .before .before .before .pre .1))
+loop-holds c =
+    let s = c .before .before .before .before .before in
+    (omega arith, layering-none _ _ _ _ _ (s .pre .0) _ (c .layer-count .ensures .0) (c .layer-count .ensures .1) _ (omega arith) _ _ _ _ _ (s .pre .1))
 
 add-done : tie.Need-add-done Inv-loop μ-loop
 add-done c = omega arith
@@ -26,7 +30,7 @@ sub-d : tie.Need-sub-d Inv-loop μ-loop
 sub-d c = omega arith
 
 take-layer-requires : tie.Need-take-layer-requires Inv-loop μ-loop
-take-layer-requires c κs = (c .before .before .before .before .before .before .before .before .before .before .before .pre .0, c .before .before .before .before .before .before .loop .inv .1 .held)
+take-layer-requires c κs = (c .before .before .before .before .before .before .before .before .before .before .before .before .pre .0, c .before .before .before .before .before .before .loop .inv .1 .held)
 
 loop-less : tie.Need-loop-less Inv-loop μ-loop
 loop-less c = omega arith
@@ -46,7 +50,7 @@ take-layers-spec =
     (tie.spec
     Inv-loop
     μ-loop
-    cast-depths
+    layer-count-requires
     loop-holds
     add-done
     sub-d

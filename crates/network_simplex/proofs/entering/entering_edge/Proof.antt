@@ -1,43 +1,20 @@
-use Prim.Native.Nat.{_≤_, _-_}
-use mathlib.Core.Logic.{⊎-elim}
 use native.Mathlib.Omega.{arith}
-use lib.ListN.{length}
-use Rattle.network_simplex.specs.Entering.{EnteringTo, entering-none, entering-more, entering-keep, entering-end}
+use Rattle.network_simplex.specs.Entering.{from-all}
 use Rattle.network_simplex.proofs.entering.entering_edge.Statement.{statement}
 use Rattle.network_simplex.proofs.entering.entering_edge.Tie as tie
 
-abbrev Inv-loop : tie.InvT-loop
-Inv-loop a b lengths potential best₀ worst₀ e₀ best worst e = (e ≤ length a) × EnteringTo a b lengths potential e best worst
+worst-from-requires : tie.Need-worst-from-requires
+worst-from-requires c κs = c .before .before .before .before .pre
 
-abbrev μ-loop : tie.MeasureT-loop
-μ-loop a b lengths potential best₀ worst₀ e₀ best worst e = length a - e
+returns : tie.Need-returns
+returns c = c .before .worst-from .ensures .some (λ q. omega arith)
 
-loop-holds : tie.Need-loop-holds Inv-loop μ-loop
-loop-holds c = (omega arith, entering-none _ _ _ _)
+worst-from-requires-2 : tie.Need-worst-from-requires-2
+worst-from-requires-2 c κs = c .before .before .before .before .before .before .pre
 
-excess-of-requires : tie.Need-excess-of-requires Inv-loop μ-loop
-excess-of-requires c κs = (c .before .before .before .before .before .before .pre, c .loop-test .taken)
-
-add-e : tie.Need-add-e Inv-loop μ-loop
-add-e c = omega arith
-
-loop-less : tie.Need-loop-less Inv-loop μ-loop
-loop-less c = omega arith
-
-loop-again : tie.Need-loop-again Inv-loop μ-loop
-loop-again c =
-    let so-far = c .before .before .before .loop .inv .1 in (
-      omega arith,
-      ⊎-elim
-          (λ w. rw (w .1, w .2) (entering-more _ _ _ _ _ _ _ _ so-far (c .before .excess-of .ensures) (c .before .before .loop-test .taken) (w .0 .taken)))
-          (λ w. rw (w .1, w .2) (entering-keep _ _ _ _ _ _ _ _ so-far (c .before .excess-of .ensures) (w .0 .left)))
-          (c .if1 .came),
-    )
-
-returns : tie.Need-returns Inv-loop μ-loop
-returns c = entering-end _ _ _ _ _ _ _ (c .loop-test .left) (c .before .loop .inv .1)
+returns-2 : tie.Need-returns-2
+returns-2 c = from-all _ _ _ _ _ (c .worst-from2 .ensures)
 
 pub entering-edge-spec : {M : Type 1} → statement M
 entering-edge-spec =
-    tie.close
-    (tie.spec Inv-loop μ-loop loop-holds excess-of-requires add-e loop-less loop-again returns)
+    tie.close (tie.spec worst-from-requires returns worst-from-requires-2 returns-2)

@@ -20,44 +20,41 @@ shared-slice-read-y c = omega arith
 cast-y : tie.Need-cast-y
 cast-y c = omega (arith, c .shared-slice-known6 .given (c .before .before .before .before .before .before .args .e))
 
-mul-u : tie.Need-mul-u
-mul-u c = omega (arith, c .before .before .before .before .before .before .pre .0 .low-a (c .before .before .before .before .before .before .args .e) (c .before .before .before .before .before .before .pre .1))
+mul-change : tie.Need-mul-change
+mul-change c = omega (arith, c .before .before .before .before .before .before .pre .0 .low-a (c .before .before .before .before .before .before .args .e) (c .before .before .before .before .before .before .pre .1))
 
-shared-slice-read-u : tie.Need-shared-slice-read-u
-shared-slice-read-u c = omega (arith, c .before .before .before .before .before .before .before .pre .0 .low-a (c .before .before .before .before .before .before .before .args .e) (c .before .before .before .before .before .before .before .pre .1))
+shared-slice-read-change : tie.Need-shared-slice-read-change
+shared-slice-read-change c = omega (arith, c .before .before .before .before .before .before .before .pre .0 .low-a (c .before .before .before .before .before .before .before .args .e) (c .before .before .before .before .before .before .before .pre .1))
 
-mul-w : tie.Need-mul-w
-mul-w c = omega (arith, c .before .before .before .before .before .before .before .pre .0 .low-b (c .before .before .before .before .before .before .before .args .e) (c .before .before .before .before .before .before .before .pre .1))
+mul-change-2 : tie.Need-mul-change-2
+mul-change-2 c = omega (arith, c .before .before .before .before .before .before .before .pre .0 .low-b (c .before .before .before .before .before .before .before .args .e) (c .before .before .before .before .before .before .before .pre .1))
 
-shared-slice-read-w : tie.Need-shared-slice-read-w
-shared-slice-read-w c = omega (arith, c .before .before .before .before .before .before .before .before .pre .0 .low-b (c .before .before .before .before .before .before .before .before .args .e) (c .before .before .before .before .before .before .before .before .pre .1))
+shared-slice-read-change-2 : tie.Need-shared-slice-read-change-2
+shared-slice-read-change-2 c = omega (arith, c .before .before .before .before .before .before .before .before .pre .0 .low-b (c .before .before .before .before .before .before .before .before .args .e) (c .before .before .before .before .before .before .before .before .pre .1))
 
-sub-beyond : tie.Need-sub-beyond
-sub-beyond c = omega arith
+change-requires : tie.Need-change-requires
+change-requires c κs = omega arith
 
-mul-beyond : tie.Need-mul-beyond
-mul-beyond c = omega arith
+cast-result : tie.Need-cast-result
+cast-result c = omega arith
 
-shared-slice-read-beyond : tie.Need-shared-slice-read-beyond
-shared-slice-read-beyond c = omega arith
+add-result : tie.Need-add-result
+add-result c = omega arith
 
-beyond-requires : tie.Need-beyond-requires
-beyond-requires c κs = omega arith
+mul-result : tie.Need-mul-result
+mul-result c = omega arith
+
+shared-slice-read-result : tie.Need-shared-slice-read-result
+shared-slice-read-result c = omega arith
+
+cast-result-2 : tie.Need-cast-result-2
+cast-result-2 c = omega (arith, c .shared-slice-known9 .given (c .before .before .before .before .before .before .before .before .before .before .args .e))
+
+sub-result : tie.Need-sub-result
+sub-result c = omega (arith, c .shared-slice-known9 .given (c .before .before .before .before .before .before .before .before .before .before .args .e))
 
 returns : tie.Need-returns
 returns c = omega arith
-
-mul-beyond-2 : tie.Need-mul-beyond-2
-mul-beyond-2 c = omega arith
-
-shared-slice-read-beyond-2 : tie.Need-shared-slice-read-beyond-2
-shared-slice-read-beyond-2 c = omega arith
-
-beyond-requires-2 : tie.Need-beyond-requires-2
-beyond-requires-2 c κs = omega arith
-
-returns-2 : tie.Need-returns-2
-returns-2 c = omega arith
 
 pub excess-of-spec : {M : Type 1} → statement M
 excess-of-spec =
@@ -69,16 +66,15 @@ excess-of-spec =
     mul-y
     shared-slice-read-y
     cast-y
-    mul-u
-    shared-slice-read-u
-    mul-w
-    shared-slice-read-w
-    sub-beyond
-    mul-beyond
-    shared-slice-read-beyond
-    beyond-requires
-    returns
-    mul-beyond-2
-    shared-slice-read-beyond-2
-    beyond-requires-2
-    returns-2)
+    mul-change
+    shared-slice-read-change
+    mul-change-2
+    shared-slice-read-change-2
+    change-requires
+    cast-result
+    add-result
+    mul-result
+    shared-slice-read-result
+    cast-result-2
+    sub-result
+    returns)

@@ -1,48 +1,65 @@
--- `shift_potential` meets its contract: the invariant is that contract at x. Assumes nothing.
-use Prim.Native.Nat.{_≤_, _-_}
+-- `shift_potential` meets its contract: what is left to do makes of the potential what the subtree makes of the first one. Assumes nothing.
 use native.Mathlib.Omega.{arith}
-use Rattle.network_simplex.specs.PivotTables.{PotentialShifted, potential-none, potential-more, potential-end}
+use Rattle.network_simplex.specs.PivotTables.{ShiftingPotential, potential-none, potential-out, potential-room, potential-fits, potential-more, potential-end}
 use Rattle.network_simplex.proofs.pivot.shift_potential.Statement.{statement}
 use Rattle.network_simplex.proofs.pivot.shift_potential.Tie as tie
 
 abbrev Inv-loop : tie.InvT-loop
-Inv-loop n subtree rises d potential₀ x₀ potential x = (x ≤ n) × PotentialShifted subtree rises d potential₀ potential x
+Inv-loop n subtree rises d potential₀ left₀ potential left = ShiftingPotential n subtree rises d potential₀ potential left
 
 abbrev μ-loop : tie.MeasureT-loop
-μ-loop n subtree rises d potential₀ x₀ potential x = n - x
+μ-loop n subtree rises d potential₀ left₀ potential left = left
 
 loop-holds : tie.Need-loop-holds Inv-loop μ-loop
-loop-holds c = (omega arith, potential-none _)
+loop-holds c = potential-none (c .before .pre)
 
-mul-shifted-within : tie.Need-mul-shifted-within Inv-loop μ-loop
-mul-shifted-within c = omega arith
+lowest-vertex-requires : tie.Need-lowest-vertex-requires Inv-loop μ-loop
+lowest-vertex-requires c κs = (c .before .loop .inv .can .few, c .before .loop .inv .can .word, c .loop-test .taken)
 
-slice-read-shifted-within : tie.Need-slice-read-shifted-within Inv-loop μ-loop
-slice-read-shifted-within c = omega arith
+mul-shifted : tie.Need-mul-shifted Inv-loop μ-loop
+mul-shifted c = omega (arith, c .before .before .loop .inv .can .few)
 
-shifted-within-requires : tie.Need-shifted-within-requires Inv-loop μ-loop
-shifted-within-requires c κs = (omega arith, λ h. rw (c .before .before .loop .inv .1 .kept (c .before .before .loop .x) (omega arith)) (c .before .before .before .before .pre .room _ (c .before .loop-test .taken) h))
+slice-read-shifted : tie.Need-slice-read-shifted Inv-loop μ-loop
+slice-read-shifted c = omega (arith, c .before .before .before .loop .inv .can .size)
+
+cast-shifted : tie.Need-cast-shifted Inv-loop μ-loop
+cast-shifted c = omega (arith, c .slice-known2 .given (c .before .lowest-vertex .result))
+
+shifted-requires : tie.Need-shifted-requires Inv-loop μ-loop
+shifted-requires c κs = potential-room (c .before .before .before .loop .inv) (c .before .lowest-vertex .ensures)
+
+cast-potential : tie.Need-cast-potential Inv-loop μ-loop
+cast-potential c =
+    omega (
+      arith,
+      potential-fits (c .before .before .before .before .loop .inv) (c .before .before .lowest-vertex .ensures) (c .shifted .result) (c .shifted .ensures)
+          (c .before .slice-known2 .given (c .before .before .lowest-vertex .result) .fits),
+    )
 
 mul-potential : tie.Need-mul-potential Inv-loop μ-loop
-mul-potential c = omega arith
+mul-potential c = omega (arith, c .before .before .before .before .loop .inv .can .few)
 
 slice-write-potential : tie.Need-slice-write-potential Inv-loop μ-loop
-slice-write-potential c = omega arith
+slice-write-potential c = omega (arith, c .before .before .before .before .loop .inv .can .size)
 
-add-x : tie.Need-add-x Inv-loop μ-loop
-add-x c = omega arith
+shl-left : tie.Need-shl-left Inv-loop μ-loop
+shl-left c = omega (arith, c .before .before .before .before .loop .inv .can .few)
+
+sub-left : tie.Need-sub-left Inv-loop μ-loop
+sub-left c = potential-out (c .before .before .before .before .loop .inv) (c .before .before .lowest-vertex .ensures) .part
 
 loop-less : tie.Need-loop-less Inv-loop μ-loop
-loop-less c = omega arith
+loop-less c =
+    let out = potential-out (c .before .before .before .before .loop .inv) (c .before .before .lowest-vertex .ensures) in omega (arith, out .some, out .part)
 
 loop-again : tie.Need-loop-again Inv-loop μ-loop
-loop-again c = (omega arith, potential-more _ (c .before .before .before .loop .inv .1) (omega arith) (c .shifted-within .ensures))
+loop-again c = potential-more (c .before .before .before .before .loop .inv) (c .before .before .lowest-vertex .ensures) _ (c .shifted .ensures)
 
 same-length : tie.Need-same-length Inv-loop μ-loop
-same-length c = c .before .loop .inv .1 .size
+same-length c = c .before .loop .inv .size
 
 returns : tie.Need-returns Inv-loop μ-loop
-returns c = potential-end (c .before .loop .inv .1) (c .before .loop .inv .0) (c .loop-test .left)
+returns c = potential-end (c .before .loop .inv) (c .loop-test .left)
 
 pub shift-potential-spec : {M : Type 1} → statement M
 shift-potential-spec =
@@ -51,12 +68,16 @@ shift-potential-spec =
     Inv-loop
     μ-loop
     loop-holds
-    mul-shifted-within
-    slice-read-shifted-within
-    shifted-within-requires
+    lowest-vertex-requires
+    mul-shifted
+    slice-read-shifted
+    cast-shifted
+    shifted-requires
+    cast-potential
     mul-potential
     slice-write-potential
-    add-x
+    shl-left
+    sub-left
     loop-less
     loop-again
     same-length

@@ -2,8 +2,7 @@ use Prim.Native.Nat.{_+_, _-_, _≤_}
 use mathlib.Core.Path.{_≡_, refl, sym}
 use native.Mathlib.Omega.{arith}
 use Rattle.arithmetic.specs.Table.{at}
-use Rattle.arithmetic.specs.Sum.{sum, sum-nil, sum-step}
-use Rattle.spanning_tree.proofs.Measures.{sum-front}
+use Rattle.arithmetic.specs.Sum.{sum, sum-nil, sum-step, sum-front}
 use Rattle.spanning_tree.proofs.checks.capped_total.Statement.{statement}
 use Rattle.spanning_tree.proofs.checks.capped_total.Tie as tie
 

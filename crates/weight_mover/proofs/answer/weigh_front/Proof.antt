@@ -35,9 +35,10 @@ same-length-2 : tie.Need-same-length-2
 same-length-2 c = omega arith
 
 returns : tie.Need-returns
-returns c =
-    (record { imbalances = _; imbalances' = _; evaluated = c .before .before .before .before .evaluate .ensures; long = omega arith },
-    (refl, refl, refl))
+returns c = (
+  record { imbalances = _; imbalances' = _; evaluated = c .before .before .before .before .evaluate .ensures; long = omega arith },
+  (refl, refl, refl),
+)
 
 pub weigh-front-spec : {M : Type 1} → statement M
 weigh-front-spec =

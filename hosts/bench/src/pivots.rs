@@ -1,0 +1,174 @@
+//! Counts the pivots of the library's search, which it does not tell itself.
+//!
+//! This is the search of `crates/network_simplex`, written again. The caller compares the tree and the potential that it ends
+//! with to those of the record: where they agree patch after patch, so do the pivots.
+
+use reference::{Edge, Problem};
+
+/// Edges that are looked at together, as in `entering_edge`.
+const BLOCK: usize = 32;
+
+/// A spanning tree with root 0 and what is kept of each vertex: the perturbed masses below it, the vertices below it as a word,
+/// the potential.
+struct Basis {
+    parents: Vec<usize>,
+    supply: Vec<i64>,
+    demand: Vec<i64>,
+    masks: Vec<u64>,
+    potential: Vec<i64>,
+}
+
+/// The tree and the potential that the search ends with, and how many pivots it took.
+pub struct Ended {
+    pub parents: Vec<usize>,
+    pub potential: Vec<i64>,
+    pub pivots: usize,
+}
+
+/// Parents and the edges to them, marked from vertex 0 in rounds over the edges.
+fn first_tree(problem: &Problem) -> (Vec<usize>, Vec<usize>) {
+    let (mut parents, mut edge) = (vec![usize::MAX; problem.n], vec![0; problem.n]);
+    parents[0] = 0;
+    let mut changed = true;
+    while changed {
+        changed = false;
+        for (e, &Edge { a, b, .. }) in problem.edges.iter().enumerate() {
+            for (x, y) in [(a, b), (b, a)] {
+                if parents[x] != usize::MAX && parents[y] == usize::MAX {
+                    (parents[y], edge[y]) = (x, e);
+                    changed = true;
+                    break;
+                }
+            }
+        }
+    }
+    (parents, edge)
+}
+
+impl Basis {
+    fn first(problem: &Problem) -> Basis {
+        let n = problem.n;
+        let (parents, edge) = first_tree(problem);
+        let (mut supply, mut demand, mut masks) = (vec![0; n], vec![0; n], vec![0; n]);
+        for y in 0..n {
+            let (grain, grains) = if y == 0 { (0, n as i64 - 1) } else { (1, 0) };
+            let mut x = y;
+            loop {
+                supply[x] += 64 * problem.mu[y] as i64 + grain;
+                demand[x] += 64 * problem.nu[y] as i64 + grains;
+                masks[x] |= 1u64 << y;
+                if x == 0 {
+                    break;
+                }
+                x = parents[x];
+            }
+        }
+        let mut basis = Basis {
+            parents,
+            supply,
+            demand,
+            masks,
+            potential: vec![0; n],
+        };
+        let step = |x: usize| problem.edges[edge[x]].length as i64 * basis.flow(x).signum();
+        basis.potential = (0..n)
+            .map(|y| basis.path(y, 0).into_iter().map(step).sum())
+            .collect();
+        basis
+    }
+
+    /// The vertices from one up to another above it, the last excluded.
+    fn path(&self, from: usize, to: usize) -> Vec<usize> {
+        std::iter::successors(Some(from), |&x| Some(self.parents[x]))
+            .take_while(|&x| x != to)
+            .collect()
+    }
+
+    fn flow(&self, x: usize) -> i64 {
+        self.supply[x] - self.demand[x]
+    }
+
+    fn excess(&self, e: &Edge) -> i64 {
+        (self.potential[e.a] - self.potential[e.b]).abs() - e.length as i64
+    }
+
+    fn entering_edge(&self, edges: &[Edge], from: usize) -> Option<usize> {
+        let blocks = |first: usize| {
+            (first..edges.len())
+                .step_by(BLOCK)
+                .map(|k| k..edges.len().min(k + BLOCK))
+        };
+        blocks(from).chain(blocks(0)).find_map(|block| {
+            // The first of the worst: `max_by_key` would give the last.
+            let worst = block.rev().max_by_key(|&e| self.excess(&edges[e]))?;
+            (self.excess(&edges[worst]) > 0).then_some(worst)
+        })
+    }
+
+    fn pivot(&mut self, edge: &Edge) {
+        let (s, t) = if self.potential[edge.b] < self.potential[edge.a] {
+            (edge.a, edge.b)
+        } else {
+            (edge.b, edge.a)
+        };
+        let mut join = s;
+        while self.masks[join] >> t & 1 == 0 {
+            join = self.parents[join];
+        }
+        let least = |from: usize, sign: i64| {
+            let flows = self
+                .path(from, join)
+                .into_iter()
+                .map(|x| (sign * self.flow(x), x));
+            flows.filter(|f| f.0 > 0).min_by_key(|f| f.0)
+        };
+        let (up, down) = (least(s, 1), least(t, -1));
+        let rises = down.is_some_and(|d| up.is_none_or(|u| d.0 < u.0));
+        let (_, leaving) = if rises { down } else { up }.expect("an edge of the cycle leaves");
+        let (a, b) = if rises { (t, s) } else { (s, t) };
+
+        let shift = self.excess(edge) * if rises { 1 } else { -1 };
+        let subtree = self.masks[leaving];
+        let (supply, demand) = (self.supply[leaving], self.demand[leaving]);
+        for (path, sign) in [(self.path(leaving, join), -1), (self.path(b, join), 1)] {
+            for x in path {
+                self.supply[x] += sign * supply;
+                self.demand[x] += sign * demand;
+                self.masks[x] ^= subtree;
+            }
+        }
+        // The path from a up to the leaving vertex turns round.
+        let mut last = b;
+        let (mut mask, mut out, mut back) = (0, 0, 0);
+        let mut turned = self.path(a, leaving);
+        turned.push(leaving);
+        for x in turned {
+            // The leaving vertex has lost its own subtotals above.
+            let own = if x == leaving {
+                (subtree, supply, demand)
+            } else {
+                (self.masks[x], self.supply[x], self.demand[x])
+            };
+            (self.masks[x], self.supply[x], self.demand[x]) = (subtree ^ mask, supply - out, demand - back);
+            (mask, out, back) = own;
+            self.parents[x] = std::mem::replace(&mut last, x);
+        }
+        (0..self.parents.len())
+            .filter(|x| subtree >> x & 1 == 1)
+            .for_each(|x| self.potential[x] += shift);
+    }
+}
+
+pub fn search(problem: &Problem) -> Ended {
+    let mut basis = Basis::first(problem);
+    let (mut pivots, mut from) = (0, 0);
+    while let Some(e) = basis.entering_edge(&problem.edges, from) {
+        basis.pivot(&problem.edges[e]);
+        (pivots, from) = (pivots + 1, e);
+    }
+    Ended {
+        parents: basis.parents,
+        potential: basis.potential,
+        pivots,
+    }
+}

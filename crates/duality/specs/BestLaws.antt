@@ -20,7 +20,7 @@ use Rattle.graph.specs.Accepted.{Accepted}
 use Rattle.graph.specs.EdgeLaws.{edge-order, joins-ends, joined-edge, joined-sym, edgeLength-sym}
 use Rattle.graph.specs.PathLaws.{path-edge, distance-below}
 use Rattle.graph.specs.DistanceLaws.{distance-self, distance-triangle, distance-step}
-use Rattle.spanning_tree.specs.TreeTests.{spanning-rooted}
+use Rattle.tree_checks.specs.TreeTests.{spanning-rooted}
 use Rattle.spanning_tree.specs.Weigh.{difference, toParent, treeCost}
 use Rattle.spanning_tree.specs.WeighLaws.{treeCost-flow}
 use Rattle.transport_plan.specs.Plan.{plan}

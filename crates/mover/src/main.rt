@@ -1,6 +1,6 @@
 // The program: reads an image on standard input and prints its listing. One byte more than the largest image is read, so that a longer
 // one is refused 11.
-use weight_mover::listing::write_listing;
+use listing::write_listing;
 
 fn main() {
     let mut image = [0u8; 65537];

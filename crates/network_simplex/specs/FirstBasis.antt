@@ -16,10 +16,10 @@ use Rattle.graph.specs.Graph.{Graph, graph, edgeLength}
 use Rattle.graph.specs.Accepted.{Accepted, vertices-in, lists-in}
 use Rattle.graph.specs.EdgeLaws.{edge-length, joined-sym, edgeLength-sym, edgeLength-most}
 use Rattle.graph.specs.FirstTree.{FirstTree}
-use Rattle.spanning_tree.specs.TreeTests.{spanning-rooted}
-use Rattle.spanning_tree.specs.Walk.{Filled}
+use Rattle.tree_checks.specs.TreeTests.{spanning-rooted}
+use Rattle.tree_checks.specs.Walk.{Filled}
+use Rattle.tree_pivot.specs.Basis.{Network, Basis}
 use Rattle.network_simplex.specs.Perturbed.{supplyOf, demandOf, supply-total, demand-total, unbalanced}
-use Rattle.network_simplex.specs.Basis.{Network, Basis}
 use Rattle.network_simplex.specs.TreePotential.{TreePotential, HasPotential, balances-of}
 
 -- ---- the lengths above the vertices

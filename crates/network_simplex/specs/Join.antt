@@ -11,7 +11,7 @@ use Rattle.arithmetic.specs.Mask.{mask, bit, bit-mask}
 use Rattle.rooted_tree.specs.Chain.{below, depth}
 use Rattle.rooted_tree.specs.Rooted.{Rooted, refl-b, parent-b, trans-b, down-b, all-b, depth-step}
 use Rattle.graph.specs.Graph.{Graph}
-use Rattle.network_simplex.specs.Basis.{Network, Basis}
+use Rattle.tree_pivot.specs.Basis.{Network, Basis}
 
 -- w is the join of s and t
 pub record Join (n : ℕ) (p : ℕ → ℕ) (s t w : ℕ) : Type 0 where

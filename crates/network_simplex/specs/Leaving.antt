@@ -14,9 +14,10 @@ use Rattle.rooted_tree.specs.Chain.{below, depth}
 use Rattle.rooted_tree.specs.Rooted.{Rooted, refl-b, parent-b, parent-out, trans-b, up-b, down-b, root-b, depth-step}
 use Rattle.rooted_tree.specs.Subtotal.{subtotal}
 use Rattle.graph.specs.Graph.{Graph}
-use Rattle.network_simplex.specs.PivotCost.{Candidate, Leaving, candidate-exists}
-use Rattle.network_simplex.specs.Basis.{Network, Basis}
+use Rattle.tree_pivot.specs.PivotCost.{Candidate, Leaving}
+use Rattle.tree_pivot.specs.Basis.{Network, Basis}
 use Rattle.network_simplex.specs.Join.{Join}
+use Rattle.network_simplex.specs.Candidates.{candidate-exists}
 
 -- more than any flow
 abbrev pub noFlow : ℕ

@@ -19,14 +19,14 @@ use Rattle.graph.specs.EdgeLaws.{edge-up, edge-down, edge-order, edge-joined, e
 use Rattle.spanning_tree.specs.Weigh.{toParent}
 use Rattle.spanning_tree.specs.WeighLaws.{costFrom, treeCost-flow}
 use Rattle.duality.specs.BestLaws.{Certificate}
+use Rattle.tree_pivot.specs.Basis.{Network, Basis, offset}
+use Rattle.tree_pivot.specs.PivotPotential.{near-root}
+use Rattle.tree_pivot.specs.PivotBasis.{CanPivotBasis, Joins, CheaperBasis}
 use Rattle.network_simplex.specs.Perturbed.{supplyOf, demandOf, true-agrees}
-use Rattle.network_simplex.specs.Basis.{Network, Basis, offset}
 use Rattle.network_simplex.specs.FirstBasis.{CanStart, vertices, network-of}
 use Rattle.network_simplex.specs.Entering.{CanEnter, Entering}
 use Rattle.network_simplex.specs.Join.{Join, CanJoin, can-join}
 use Rattle.network_simplex.specs.Leaving.{CanLeave, Leaves, can-leave, leaving-s, leaving-t}
-use Rattle.network_simplex.specs.PivotPotential.{near-root}
-use Rattle.network_simplex.specs.PivotBasis.{CanPivotBasis, Joins, CheaperBasis}
 
 -- ---- one step
 

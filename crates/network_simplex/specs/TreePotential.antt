@@ -17,8 +17,8 @@ use Rattle.rooted_tree.specs.Chain.{below, depth}
 use Rattle.rooted_tree.specs.Rooted.{Rooted, above, above-root, above-step, depth-step}
 use Rattle.rooted_tree.specs.Subtotal.{subtotal, inner}
 use Rattle.graph.specs.Graph.{Graph, edgeLength}
-use Rattle.network_simplex.specs.PivotCost.{Potential}
-use Rattle.network_simplex.specs.Basis.{Network, offset}
+use Rattle.tree_pivot.specs.PivotCost.{Potential}
+use Rattle.tree_pivot.specs.Basis.{Network, offset}
 
 -- the potential of x is above its parent's where the flow goes up from x, and below it elsewhere
 pub record TreePotential (n : ℕ) (parents lengths supply demand potential : List ℕ) : Type 0 where

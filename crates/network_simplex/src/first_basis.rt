@@ -8,13 +8,13 @@ ghost use Rattle.arithmetic.specs.Sum.{pick};
 ghost use Rattle.arithmetic.specs.Table.{at};
 ghost use Rattle.rooted_tree.specs.Subtotal.{subtotal};
 ghost use Rattle.graph.specs.Graph.{graph};
-ghost use Rattle.spanning_tree.specs.Walk.{Filled};
+ghost use Rattle.tree_checks.specs.Walk.{Filled};
+ghost use Rattle.tree_pivot.specs.Basis.{Basis};
 ghost use Rattle.network_simplex.specs.Perturbed.{supplyOf, demandOf};
-ghost use Rattle.network_simplex.specs.Basis.{Basis};
 ghost use Rattle.network_simplex.specs.FirstBasis.{CanMeasure, LengthsAbove, CanPerturb, CanWeigh, Places, CanStart, StartInput};
 use crate::potential;
-use spanning_tree::walk;
 use spanning_tree::weigh;
+use tree_checks::walk;
 
 // The length of the edge above each vertex.
 fn lengths_above(n: usize, lengths: &[u32], edge: &[u32], out: &mut [u32])

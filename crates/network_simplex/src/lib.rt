@@ -2,6 +2,5 @@
 mod entering;
 mod first_basis;
 mod leaving;
-mod pivot;
 mod potential;
 pub mod search;

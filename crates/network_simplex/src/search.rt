@@ -9,7 +9,6 @@ ghost use Rattle.network_simplex.specs.Search.{ExchangeInput, Exchanged,
 use crate::entering;
 use crate::first_basis;
 use crate::leaving;
-use crate::pivot;
 
 // x where the test holds, else y.
 fn choose(test: bool, x: usize, y: usize) -> usize
@@ -41,7 +40,7 @@ fn exchange(
     let rises = leaves.rises;
     let a = choose(rises, t, s);
     let b = choose(rises, s, t);
-    pivot::pivot(
+    tree_pivot::pivot(
         n,
         a,
         b,

@@ -9,7 +9,7 @@ use lib.IntN.{ℤ, pos}
 use Rattle.arithmetic.specs.Table.{at, matrix, written}
 use Rattle.graph.specs.Graph.{Graph}
 use Rattle.graph.specs.Checks.{graphRefusal}
-use Rattle.spanning_tree.specs.Checks.{measureRefusal}
+use Rattle.tree_checks.specs.Checks.{measureRefusal}
 use Rattle.transport_plan.specs.Plan.{plan, moves}
 use Rattle.duality.specs.Best.{Best}
 

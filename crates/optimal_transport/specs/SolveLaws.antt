@@ -23,13 +23,13 @@ use Rattle.graph.specs.Checks.{verticesOk, graphRefusal}
 use Rattle.graph.specs.Accepted.{Accepted, vertices-in, not-refused, accepted-refusal, refused}
 use Rattle.graph.specs.EdgeLaws.{edgeLength-most}
 use Rattle.graph.specs.FirstTree.{FirstTree, Checked}
-use Rattle.spanning_tree.specs.Checks.{totalsOk, totalsEqual, measureRefusal}
+use Rattle.tree_checks.specs.Checks.{totalsOk, totalsEqual, measureRefusal}
 use Rattle.spanning_tree.specs.Weigh.{treeCost}
 use Rattle.transport_plan.specs.Plan.{moves}
 use Rattle.transport_plan.specs.PlanSteps.{Measures}
 use Rattle.spanning_tree.specs.Evaluate.{Given}
-use Rattle.spanning_tree.specs.TreeTests.{spanning-rooted, accepted-spanning, accepted-rooted}
-use Rattle.spanning_tree.specs.Walk.{Filled}
+use Rattle.tree_checks.specs.TreeTests.{spanning-rooted, accepted-spanning, accepted-rooted}
+use Rattle.tree_checks.specs.Walk.{Filled}
 use Rattle.spanning_tree.specs.WeighLaws.{Within, costFrom, treeCost-flow}
 use Rattle.spanning_tree.specs.EvaluateLaws.{GivenChecked, LengthsTo, roomOk, two-passed, totals-in, equal-in, room-in}
 use Rattle.duality.specs.Best.{LeastTree}

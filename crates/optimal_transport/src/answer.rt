@@ -11,8 +11,8 @@ ghost use Rattle.graph.specs.Graph.{graph};
 ghost use Rattle.spanning_tree.specs.WeighLaws.{Within};
 ghost use Rattle.network_simplex.specs.FirstBasis.{CanStart};
 ghost use Rattle.optimal_transport.specs.SolveLaws.{measuresLong, SolveChecked, BestAnswer, CanCost, CanSolve, LeastCost};
-use spanning_tree::checks;
 use spanning_tree::weigh;
+use tree_checks::checks;
 
 // both paintings are n long, and the answer tables are fine
 fn measures_fit(n: usize, mu: &[u64], nu: &[u64], answers: bool) -> bool

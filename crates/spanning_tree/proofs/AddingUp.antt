@@ -12,7 +12,7 @@ use Rattle.arithmetic.specs.Table.{at}
 use Rattle.rooted_tree.specs.Chain.{below}
 use Rattle.rooted_tree.specs.Rooted.{Rooted, at-step, at-root, refl-b, parent-out}
 use Rattle.rooted_tree.specs.Subtotal.{subtotal}
-use Rattle.spanning_tree.specs.Walk.{Filled}
+use Rattle.tree_checks.specs.Walk.{Filled}
 use Rattle.spanning_tree.specs.WeighLaws.{AddedUp}
 
 -- what is left is to add from z up

@@ -12,7 +12,7 @@ use Rattle.rooted_tree.specs.Chain.{below, depth}
 use Rattle.transport_plan.specs.Plan.{moves}
 use Rattle.transport_plan.specs.PlanMoves.{moves-filled}
 use Rattle.transport_plan.specs.PlanSteps.{Walked}
-use Rattle.spanning_tree.specs.Walk.{Filled}
+use Rattle.tree_checks.specs.Walk.{Filled}
 use Rattle.spanning_tree.specs.EvaluateLaws.{tablesOk, roomOk}
 
 module _ (n : ℕ) (mu nu parents : List ℕ) (t : Bool) where

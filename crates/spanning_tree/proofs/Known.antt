@@ -14,10 +14,10 @@ use Rattle.arithmetic.specs.Mask.{mask}
 use Rattle.rooted_tree.specs.Chain.{below, depth}
 use Rattle.rooted_tree.specs.Rooted.{Rooted}
 use Rattle.graph.specs.Checks.{verticesOk}
-use Rattle.spanning_tree.specs.Checks.{parentsOk, chainsOk}
+use Rattle.tree_checks.specs.Checks.{parentsOk, chainsOk}
 use Rattle.spanning_tree.specs.Tree.{known, depthOf, parentOf, subtreeOf}
-use Rattle.spanning_tree.specs.TreeTests.{tests-rooted}
-use Rattle.spanning_tree.specs.Walk.{Filled}
+use Rattle.tree_checks.specs.TreeTests.{tests-rooted}
+use Rattle.tree_checks.specs.Walk.{Filled}
 
 pub record Known (n r : ℕ) (ps : List ℕ) (v : ℕ) : Type 0 where
   pub vertex : v < n

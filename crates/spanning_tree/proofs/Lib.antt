@@ -1,10 +1,5 @@
 pub mod AddingUp
-pub mod Chains
 pub mod Climbing
-pub mod Edges
 pub mod Evaluating
 pub mod Known
-pub mod Measures
-pub mod Refusals
 pub mod Signed
-pub mod Walking

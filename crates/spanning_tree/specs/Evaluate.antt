@@ -9,7 +9,7 @@ use lib.IntN.{ℤ}
 use Rattle.arithmetic.specs.Table.{at, tab, matrix, result, written}
 use Rattle.graph.specs.Graph.{Graph}
 use Rattle.graph.specs.Checks.{graphRefusal}
-use Rattle.spanning_tree.specs.Checks.{measureRefusal, treeRefusal}
+use Rattle.tree_checks.specs.Checks.{measureRefusal, treeRefusal}
 use Rattle.spanning_tree.specs.Weigh.{imbalance, potential, treeCost}
 use Rattle.transport_plan.specs.Plan.{plan, moves}
 

@@ -17,13 +17,13 @@ use Rattle.graph.specs.Graph.{Graph}
 use Rattle.graph.specs.Checks.{verticesOk, graphRefusal, check}
 use Rattle.graph.specs.Accepted.{Accepted, vertices-in, check-passed, not-refused, accepted-refusal, refused}
 use Rattle.graph.specs.EdgeLaws.{edgeLength-most}
-use Rattle.spanning_tree.specs.Checks.{totalsOk, totalsEqual, measureRefusal, treeRefusal}
+use Rattle.tree_checks.specs.Checks.{totalsOk, totalsEqual, measureRefusal, treeRefusal}
 use Rattle.spanning_tree.specs.Weigh.{imbalance, potential, treeCost, toParent}
 use Rattle.transport_plan.specs.Plan.{moves}
 use Rattle.spanning_tree.specs.Evaluate.{Given, givenRefusal, evaluateRefusal, treePlan, Evaluated}
-use Rattle.spanning_tree.specs.TreeTests.{accepted-rooted}
-use Rattle.spanning_tree.specs.Walk.{Filled}
-use Rattle.spanning_tree.specs.ParentEdges.{EdgesAccepted, Lengths}
+use Rattle.tree_checks.specs.TreeTests.{accepted-rooted}
+use Rattle.tree_checks.specs.Walk.{Filled}
+use Rattle.tree_checks.specs.ParentEdges.{EdgesAccepted, Lengths}
 use Rattle.spanning_tree.specs.WeighLaws.{Within, TreeTables, costFrom, potentialFrom, imbalance-table, cost-table, potential-table}
 use Rattle.transport_plan.specs.PlanSteps.{Measures}
 

@@ -1,10 +1,6 @@
-pub mod Checks
 pub mod Tree
 pub mod Weigh
 pub mod Evaluate
-pub mod TreeTests
-pub mod Walk
-pub mod ParentEdges
 pub mod TreeValue
 pub mod WeighLaws
 pub mod EvaluateLaws

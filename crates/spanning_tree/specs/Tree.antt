@@ -7,7 +7,7 @@ use Rattle.arithmetic.specs.Table.{at}
 use Rattle.arithmetic.specs.Mask.{mask}
 use Rattle.rooted_tree.specs.Chain.{below, depth}
 use Rattle.graph.specs.Checks.{verticesOk}
-use Rattle.spanning_tree.specs.Checks.{parentsOk, chainsOk}
+use Rattle.tree_checks.specs.Checks.{parentsOk, chainsOk}
 
 -- v is below n, and 1, 8 and 10 would not refuse the tree
 unfoldable pub known : ℕ → ℕ → List ℕ → ℕ → Bool

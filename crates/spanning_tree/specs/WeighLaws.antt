@@ -21,7 +21,7 @@ use Rattle.rooted_tree.specs.Subtotal.{subtotal, inner, by-parts}
 use Rattle.rooted_tree.specs.Flow.{flowCost, TreeEdge, same-edges-same-cost}
 use Rattle.graph.specs.Graph.{Graph, edgeLength}
 use Rattle.graph.specs.EdgeLaws.{edgeLength-sym}
-use Rattle.spanning_tree.specs.Walk.{Filled}
+use Rattle.tree_checks.specs.Walk.{Filled}
 use Rattle.spanning_tree.specs.Weigh.{difference, imbalance, sign, toParent, potential, treeCost}
 
 -- ---- definitions for the contracts of src/weigh.rt: n vertices, the root r and parents p, a length l above each vertex, and the masses

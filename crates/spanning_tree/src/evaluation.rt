@@ -11,9 +11,9 @@ ghost use Rattle.transport_plan.specs.Plan as Plan;
 ghost use Rattle.transport_plan.specs.PlanSteps.{Measures};
 ghost use Rattle.spanning_tree.specs.Evaluate.{given};
 ghost use Rattle.spanning_tree.specs.EvaluateLaws.{GivenChecked, tablesOk, roomOk, LengthsTo, Weighable, Weighed};
-use crate::checks;
-use crate::walk;
 use crate::weigh;
+use tree_checks::checks;
+use tree_checks::walk;
 
 // 0 or a refusal number, with the cost of the tree and the moves of its plan
 pub struct Evaluation {

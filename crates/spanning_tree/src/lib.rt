@@ -1,11 +1,9 @@
-// Spanning trees of a graph: their checks, the tree by value, and its weighing.
+// Spanning trees of a graph: the tree by value, and the weighing of a given one.
 ghost use Rattle.graph.specs.Graph.{graph};
 ghost use Rattle.spanning_tree.specs.Evaluate.{given, Evaluated};
 
-pub mod checks;
 pub mod evaluation;
 pub mod tree;
-pub mod walk;
 pub mod weigh;
 
 use crate::evaluation::Evaluation;

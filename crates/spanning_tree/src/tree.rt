@@ -5,8 +5,8 @@ ghost use Rattle.arithmetic.specs.Sum.{pick};
 ghost use Rattle.arithmetic.specs.Table.{at};
 ghost use Rattle.spanning_tree.specs.Tree.{known, depthOf, parentOf, subtreeOf};
 ghost use Rattle.spanning_tree.specs.TreeValue.{parentsHeld};
-use crate::checks;
-use crate::walk;
+use tree_checks::checks;
+use tree_checks::walk;
 
 pub struct Tree {
     pub n: usize,

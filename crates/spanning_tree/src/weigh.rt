@@ -10,9 +10,9 @@ ghost use Rattle.arithmetic.specs.Product.{gap};
 ghost use Rattle.arithmetic.specs.Table.{at, tab};
 ghost use Rattle.rooted_tree.specs.Rooted.{Rooted};
 ghost use Rattle.rooted_tree.specs.Subtotal.{subtotal};
-ghost use Rattle.spanning_tree.specs.Walk.{Filled};
+ghost use Rattle.tree_checks.specs.Walk.{Filled};
 ghost use Rattle.spanning_tree.specs.WeighLaws.{costFrom, rises, falls, potentialFrom, Within, AddedUp};
-use crate::walk;
+use tree_checks::walk;
 
 // adds d to the sum of each x that y is below
 fn add_up(n: usize, root: usize, parents: &[u32], y: usize, d: u64, sums: &mut [u64])

@@ -6,7 +6,7 @@ use mathlib.Core.List.{List}
 use lib.ListN.{length, getD, take}
 use lib.IntN.{ℤ, pos}
 use Rattle.arithmetic.specs.Sum.{pick}
-use Rattle.arithmetic.specs.Table.{at, written}
+use Rattle.arithmetic.specs.Table.{at}
 use Rattle.graph.specs.Graph.{graph}
 use Rattle.spanning_tree.specs.Evaluate.{given, Evaluated}
 use Rattle.spanning_tree.specs.Weigh.{potential}
@@ -14,7 +14,6 @@ use Rattle.transport_plan.specs.Plan.{moves}
 use Rattle.duality.specs.Best.{Best}
 use Rattle.image.specs.Image.{hasTree, vertexCount, amountBefore, amountAfter, rootOf, parentOf}
 use Rattle.weight_mover.specs.Run.{graphOf, answerRefusal, entryOf, imagePlan, weighedCost}
-use Rattle.weight_mover.specs.Listing.{Listing}
 
 -- the tree in the first places of tables was weighed, with a table for the imbalances of its own
 pub record WeighedFront (n m : ℕ) (a b l mu nu : List ℕ) (root : ℕ) (parents : List ℕ) (potentials : List ℤ) (entries : List ℕ)
@@ -51,10 +50,3 @@ pub record Answered (s : List ℕ) (fits : Bool) (k n root tree cost moved : ℕ
   pub tree-is : k ≡ 0 → tree ≡ pick (hasTree s) 1
   pub weighed : k ≡ 0 → hasTree s ≡ true → Weighed s root cost moved parents potentials entries
   pub solved : k ≡ 0 → hasTree s ≡ false → Found s root cost moved parents potentials entries
-
--- a listing of the image s, written into a lent buffer
-pub record Listed (s buffer : List ℕ) (size : ℕ) (buffer' : List ℕ) : Type 0 where
-  pub text : List ℕ
-  pub listing : Listing s text
-  pub buffer-is : buffer' ≡ written 0 text buffer
-  pub size-is : size ≡ length text

@@ -12,20 +12,19 @@ use lib.Seq.{take-at}
 use borrow.Author.Tests.{eq-eqb, le-leb, lt-leb, leb-true}
 use Rattle.arithmetic.specs.Bools.{case, clash}
 use Rattle.arithmetic.specs.Sum.{pick}
-use Rattle.arithmetic.specs.Table.{at, tab, written, length-tab, tab-at, rows-ext}
+use Rattle.arithmetic.specs.Table.{at, tab, matrix, written, length-tab, length-rows, tab-at, rows-ext}
 use Rattle.graph.specs.Graph.{graph}
 use Rattle.graph.specs.Checks.{verticesOk, listsOk, check, graphRefusal}
 use Rattle.graph.specs.Accepted.{vertices-in, check-passed, not-refused}
-use Rattle.spanning_tree.specs.Checks.{totalsOk, totalsEqual, measureRefusal, parentsOk, treeRefusal}
+use Rattle.tree_checks.specs.Checks.{totalsOk, totalsEqual, measureRefusal, parentsOk, treeRefusal}
 use Rattle.spanning_tree.specs.Evaluate.{Given, given, evaluateRefusal, treePlan, Evaluated}
 use Rattle.transport_plan.specs.PlanMoves.{moves-ext}
 use Rattle.optimal_transport.specs.Solve.{solveRefusal, bestPlan, Solved}
 use Rattle.image.specs.Image.{sizeOk, sectionsOk, layoutOk, hasTree, vertexCount, edgeCount, lowerEnd, upperEnd, edgeLengthOf, amountBefore, amountAfter, rootOf, parentOf}
 use Rattle.image.specs.Read.{Lists, roomOk, readRefusal, Read}
 use Rattle.image.specs.ReadLaws.{Accepted, accepted, image-passes}
-use Rattle.weight_mover.specs.Record.{recordSize}
-use Rattle.weight_mover.specs.Run.{graphOf, answerRefusal, imagePlan}
-use Rattle.weight_mover.specs.RecordLaws.{plan-entry}
+use Rattle.host_record.specs.Record.{recordSize}
+use Rattle.weight_mover.specs.Run.{graphOf, answerRefusal, entryOf, imagePlan}
 use Rattle.weight_mover.specs.Agree.{Same, SameTree, itself, same-tree, treeCost-same, potential-same, plan-same, measures-same, parents-into, tree-same, best-same}
 use Rattle.weight_mover.specs.Answer.{WeighedFront, Weighed, Found, Answered}
 
@@ -93,6 +92,11 @@ front m n f l lent e h = rw (h, e) (take-at (tab n f) (drop (length (tab n f)) l
 filled-at : {A : Type 0} (n : ℕ) (f : ℕ → A) (d : A) (l lent : List A) → l ≡ written 0 (tab n f) lent → (x : ℕ) → x < n → getD l x d ≡ f x
 filled-at n f d l lent h x k =
     rw h (List·getD-append (tab n f) (drop (length (tab n f)) lent) d x (rw (length-tab n f) k) ∙ tab-at n f d x k)
+
+-- a lent table in which a plan was written reads as the plan
+pub plan-entry : (n : ℕ) (t : ℕ → ℕ → ℕ) (l lent : List ℕ) → l ≡ written 0 (matrix n t) lent → (c : ℕ) → c < n * n → at l c ≡ entryOf n t c
+plan-entry n t l lent e c h =
+    rw e (List·getD-append (matrix n t) (drop (length (matrix n t)) lent) 0 c (rw (length-rows n n t) h))
 
 -- what was read of the vertices below n
 module _ (s : List ℕ) where

@@ -1,9 +1,4 @@
-pub mod Record
 pub mod Run
-pub mod Listing
-pub mod Placed
-pub mod RecordLaws
-pub mod ListingLaws
 pub mod Agree
 pub mod Answer
 pub mod AnswerLaws

@@ -9,13 +9,13 @@ use lib.IntN.{ℤ}
 use Rattle.arithmetic.specs.Table.{at, tab, matrix, written}
 use Rattle.graph.specs.Graph.{Graph, graph}
 use Rattle.graph.specs.Checks.{graphRefusal}
-use Rattle.spanning_tree.specs.Checks.{measureRefusal, treeRefusal}
+use Rattle.tree_checks.specs.Checks.{measureRefusal, treeRefusal}
 use Rattle.spanning_tree.specs.Weigh.{potential, treeCost}
 use Rattle.transport_plan.specs.Plan.{plan, moves}
 use Rattle.duality.specs.Best.{Best}
 use Rattle.image.specs.Image.{hasTree, vertexCount, edgeCount, lowerEnd, upperEnd, edgeLengthOf, amountBefore, amountAfter, rootOf, parentOf}
 use Rattle.image.specs.Read.{imageRefusal}
-use Rattle.weight_mover.specs.Record.{record-bytes, recordSize}
+use Rattle.host_record.specs.Record.{record-bytes, recordSize}
 
 -- the graph of an image
 abbrev pub graphOf : List ℕ → Graph

@@ -6,7 +6,7 @@ ghost use lib.Dec.{leb};
 ghost use Rattle.graph.specs.Graph.{graph};
 ghost use Rattle.optimal_transport.specs.Solve.{Solved};
 ghost use Rattle.image.specs.Image.{vertexCount};
-ghost use Rattle.weight_mover.specs.Record.{recordSize};
+ghost use Rattle.host_record.specs.Record.{recordSize};
 ghost use Rattle.weight_mover.specs.Answer.{WeighedFront, Answered};
 use image::read;
 use optimal_transport::solve;

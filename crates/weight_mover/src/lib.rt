@@ -1,11 +1,9 @@
-// The exported entry, which answers an image by a record, and the program's text.
-mod answer; // read, and weighed or solved
-pub mod listing; // the program's text
-mod record; // the host record
+// The exported entry, which answers an image by its record.
+pub mod answer; // read, and weighed or solved
 
 ghost use Rattle.weight_mover.specs.Run.{Ran};
 use answer::answer_image;
-use record::write_record;
+use host_record::write_record;
 
 // Answers an image by its record: 0, or a refusal number and the buffer as it came.
 #[no_mangle]

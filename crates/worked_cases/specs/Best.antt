@@ -12,8 +12,8 @@ use Rattle.arithmetic.specs.Sum.{sum}
 use Rattle.arithmetic.specs.Table.{at}
 use Rattle.graph.specs.Graph.{Graph, edges}
 use Rattle.graph.specs.Accepted.{Accepted}
-use Rattle.spanning_tree.specs.Checks.{treeRefusal}
-use Rattle.spanning_tree.specs.TreeTests.{accepted-spanning}
+use Rattle.tree_checks.specs.Checks.{treeRefusal}
+use Rattle.tree_checks.specs.TreeTests.{accepted-spanning}
 use Rattle.spanning_tree.specs.Weigh.{treeCost}
 use Rattle.transport_plan.specs.Plan.{plan}
 use Rattle.duality.specs.Best.{Best, LeastTree}

@@ -9,7 +9,7 @@ use Rattle.arithmetic.specs.Bools.{all}
 use Rattle.arithmetic.specs.Integer.{sumℤ}
 use Rattle.arithmetic.specs.Table.{at, tab, matrix}
 use Rattle.graph.specs.Graph.{Graph, edges}
-use Rattle.spanning_tree.specs.Checks.{treeRefusal}
+use Rattle.tree_checks.specs.Checks.{treeRefusal}
 use Rattle.spanning_tree.specs.Weigh.{difference, imbalance, potential, treeCost}
 use Rattle.transport_plan.specs.Plan.{moves}
 use Rattle.spanning_tree.specs.Evaluate.{Given, givenRefusal, treePlan}

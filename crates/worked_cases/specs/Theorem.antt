@@ -8,7 +8,7 @@ use Rattle.arithmetic.specs.Table.{tab, rows}
 use Rattle.rooted_tree.specs.Chain.{climb, below, depth}
 use Rattle.graph.specs.Graph.{joined, edgeLength}
 use Rattle.graph.specs.Checks.{verticesOk, listsOk, edgeOk, lengthOk, reached, connected, graphRefusal}
-use Rattle.spanning_tree.specs.Checks.{totalsOk, totalsEqual, parentsOk, treeEdgesOk, chainsOk}
+use Rattle.tree_checks.specs.Checks.{totalsOk, totalsEqual, parentsOk, treeEdgesOk, chainsOk}
 use Rattle.spanning_tree.specs.Weigh.{imbalance, potential, treeCost}
 use Rattle.transport_plan.specs.Plan.{lowest, moved, settled, layer, layers, plan, moves}
 use Rattle.image.specs.Image.{sizeOk, sectionOk, layoutOk}

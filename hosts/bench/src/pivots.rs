@@ -143,12 +143,7 @@ impl Basis {
         let mut turned = self.path(a, leaving);
         turned.push(leaving);
         for x in turned {
-            // The leaving vertex has lost its own subtotals above.
-            let own = if x == leaving {
-                (subtree, supply, demand)
-            } else {
-                (self.masks[x], self.supply[x], self.demand[x])
-            };
+            let own = (self.masks[x], self.supply[x], self.demand[x]);
             (self.masks[x], self.supply[x], self.demand[x]) = (subtree ^ mask, supply - out, demand - back);
             (mask, out, back) = own;
             self.parents[x] = std::mem::replace(&mut last, x);

@@ -1,6 +1,6 @@
 use native.Mathlib.Omega.{arith}
 use lib.ListN.{length-take}
-use Rattle.weight_mover.specs.RunLaws.{listed-within}
+use Rattle.listing.specs.ListedLaws.{listed-within}
 use borrow.Author.Needs.{needs}
 use Rattle.mover.proofs.main.Statement.{statement}
 use Rattle.mover.proofs.main.Tie as tie

@@ -5,7 +5,7 @@ use borrow.Author.Needs.{needs}
 use borrow.Author.Tests.{not-true, not-false}
 use lib.ListN.{length}
 use Rattle.spanning_tree.proofs.Known.{known-fails, known-is}
-use Rattle.spanning_tree.specs.TreeTests.{parents-say}
+use Rattle.tree_checks.specs.TreeTests.{parents-say}
 use Rattle.arithmetic.specs.Bools.{clash}
 use Rattle.spanning_tree.proofs.tree.Tree.knows.Statement.{statement}
 use Rattle.spanning_tree.proofs.tree.Tree.knows.Tie as tie

@@ -1,0 +1,65 @@
+use Prim.Native.Nat.{_≤_, _-_}
+use mathlib.Core.Path.{_≡_, refl}
+use native.Mathlib.Omega.{arith}
+use lib.ListN.{length}
+use Rattle.arithmetic.specs.Table.{at}
+use Rattle.host_record.specs.Record.{fields}
+use Rattle.host_record.specs.Placed.{placed}
+use Rattle.host_record.specs.RecordLaws.{fields-none, fields-more, fields-end}
+use borrow.Author.Needs.{needs}
+use Rattle.host_record.proofs.write_parents.Statement.{statement}
+use Rattle.host_record.proofs.write_parents.Tie as tie
+
+abbrev Inv-loop : tie.InvT-loop
+Inv-loop n parents out₀ i₀ out i = (i ≤ n) × (length out ≡ length out₀) × (out ≡ placed 0 (fields 1 i (at parents)) out₀)
+
+abbrev μ-loop : tie.MeasureT-loop
+μ-loop n parents out₀ i₀ out i = n - i
+
+loop-holds : tie.Need-loop-holds Inv-loop μ-loop
+loop-holds c = (omega arith, refl, fields-none 1 _ _)
+
+mul-put-byte : tie.Need-mul-put-byte Inv-loop μ-loop
+mul-put-byte c = omega arith
+
+shared-slice-read-put-byte : tie.Need-shared-slice-read-put-byte Inv-loop μ-loop
+shared-slice-read-put-byte c = omega arith
+
+put-byte-requires : tie.Need-put-byte-requires Inv-loop μ-loop
+put-byte-requires c κs = omega arith
+
+add-i : tie.Need-add-i Inv-loop μ-loop
+add-i c = omega arith
+
+loop-less : tie.Need-loop-less Inv-loop μ-loop
+loop-less c = omega arith
+
+loop-again : tie.Need-loop-again Inv-loop μ-loop
+loop-again c =
+    let l = c .before .before .before .before .before .before .loop in (
+      omega arith,
+      search needs,
+      fields-more 1 (at (c .before .before .before .before .before .before .before .before .before .args .parents .now)) _ _ _ _ (l .out) _ (omega arith) (l .inv .2) (omega arith) refl (c .before .before .put-byte .ensures),
+    )
+
+same-length : tie.Need-same-length Inv-loop μ-loop
+same-length c = c .before .loop .inv .1
+
+returns : tie.Need-returns Inv-loop μ-loop
+returns c = fields-end _ _ _ _ _ _ (c .before .loop .inv .0) (c .loop-test .left) (c .before .loop .inv .2)
+
+pub write-parents-spec : {M : Type 1} → statement M
+write-parents-spec =
+    tie.close
+    (tie.spec
+    Inv-loop
+    μ-loop
+    loop-holds
+    mul-put-byte
+    shared-slice-read-put-byte
+    put-byte-requires
+    add-i
+    loop-less
+    loop-again
+    same-length
+    returns)

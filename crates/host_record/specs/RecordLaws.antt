@@ -1,0 +1,115 @@
+-- The record's bytes as its writers store them.
+use mathlib.Core.Path.{_≡_, ap, _∙_}
+use mathlib.Core.List.{List, [], _∷_, _++_, append-assoc}
+use Prim.Native.Nat.{ℕ, suc, _+_, _-_, _*_, _/_, _%_, _≤_, _<_}
+use native.Mathlib.Numerals.{add-one}
+use native.Mathlib.Nat.{div-one}
+use native.Mathlib.Omega.{arith}
+use lib.ListN.{length, set, length-append}
+use lib.Seq.{sets-eq}
+use lib.IntN.{ℤ}
+use borrow.Rule.Slice.PartMut.{midOf, putMid}
+use Rattle.arithmetic.specs.Table.{tab, rows, length-tab, length-rows, rows-ext, written}
+use Rattle.host_record.specs.Record.{byteOf, fields, signed, record-bytes, recordSize}
+use Rattle.host_record.specs.Placed.{placed, placed-none, placed-front, placed-then, placed-part}
+
+-- ---- a number's bytes
+
+pub one-store : (p x : ℕ) (l : List ℕ) → p < length l → set l p (x % 256) ≡ placed p (tab 1 (byteOf x)) l
+unfolding tab byteOf placed
+one-store p x l h = rw (div-one x) (sets-eq (x % 256 ∷ []) l p (omega arith))
+
+pub four-stores : (p x : ℕ) (l : List ℕ) → p + 4 ≤ length l
+    → set (set (set (set l p (x % 256)) (p + 1) (x / 256 % 256)) (p + 2) (x / 65536 % 256)) (p + 3) (x / 16777216 % 256)
+    ≡ placed p (tab 4 (byteOf x)) l
+unfolding tab byteOf placed
+four-stores p x l h =
+    let e : p + 1 ≡ suc p = omega arith in
+    let f : p + 2 ≡ suc (suc p) = omega arith in
+    let g : p + 3 ≡ suc (suc (suc p)) = omega arith in
+    rw (div-one x, e, f, g)
+    (sets-eq (x % 256 ∷ x / 256 % 256 ∷ x / 65536 % 256 ∷ x / 16777216 % 256 ∷ []) l p h)
+
+pub eight-stores : (x : ℕ) (l : List ℕ) → 8 ≤ length l
+    → set (set (set (set (set (set (set (set l 0 (x % 256)) 1 (x / 256 % 256)) 2 (x / 65536 % 256)) 3 (x / 16777216 % 256))
+    4 (x / 4294967296 % 256)) 5 (x / 1099511627776 % 256)) 6 (x / 281474976710656 % 256)) 7 (x / 72057594037927936 % 256)
+    ≡ placed 0 (tab 8 (byteOf x)) l
+unfolding tab byteOf placed
+eight-stores x l h =
+    rw (div-one x)
+    (sets-eq
+    (x % 256 ∷ x / 256 % 256 ∷ x / 65536 % 256 ∷ x / 16777216 % 256 ∷ x / 4294967296 % 256 ∷ x / 1099511627776 % 256
+    ∷ x / 281474976710656 % 256 ∷ x / 72057594037927936 % 256 ∷ []) l 0 h)
+
+-- ---- a section's fields, k bytes each
+
+module _ (k : ℕ) (f : ℕ → ℕ) (l : List ℕ) where
+  pub fields-none : l ≡ placed 0 (fields k 0 f) l
+  unfolding rows
+  fields-none = placed-none 0 l
+
+  pub fields-more : (i p x : ℕ) (m o : List ℕ) → k * i + k ≤ length l → m ≡ placed 0 (fields k i f) l → p ≡ k * i → x ≡ f i
+      → o ≡ placed p (tab k (byteOf x)) m → o ≡ placed 0 (fields k (i + 1) f) l
+  unfolding rows
+  fields-more i p x m o h e q g s =
+      let long : length (fields k i f) ≡ i * k = length-rows k i (λ j. byteOf (f j)) in
+      rw (add-one i)
+      (placed-then 0 p (fields k i f) (tab k (byteOf (f i))) l m o (omega arith) (omega arith) e (rw g at s))
+
+  pub fields-end : (i n : ℕ) (o : List ℕ) → i ≤ n → n ≤ i → o ≡ placed 0 (fields k i f) l → o ≡ written 0 (fields k n f) l
+  fields-end i n o h g e =
+      let s : i ≡ n = omega arith in
+      rw s at e ∙ placed-front (fields k n f) l
+
+-- ---- the sections, one behind the other
+
+-- cost, moves and root
+pub figures : (cost moves root : ℕ) (l m o q : List ℕ) → 13 ≤ length l → m ≡ placed 0 (tab 8 (byteOf cost)) l
+    → o ≡ placed 8 (tab 4 (byteOf moves)) m → q ≡ placed 12 (tab 1 (byteOf root)) o
+    → q ≡ placed 0 (tab 8 (byteOf cost) ++ tab 4 (byteOf moves) ++ tab 1 (byteOf root)) l
+figures cost moves root l m o q h e f g =
+    let a = length-tab 8 (byteOf cost) in
+    let b = length-tab 4 (byteOf moves) in
+    let ab = length-append (tab 8 (byteOf cost)) (tab 4 (byteOf moves)) in
+    placed-then 0 12 _ _ l o q (omega arith) (omega arith) (placed-then 0 8 _ _ l m o (omega arith) (omega arith) e f) g
+
+module _ (n cost moves root : ℕ) (parent : ℕ → ℕ) (u : ℕ → ℤ) (entry : ℕ → ℕ) (l : List ℕ) (room : recordSize n ≤ length l) where
+  abbrev head : List ℕ
+  head = tab 8 (byteOf cost) ++ tab 4 (byteOf moves) ++ tab 1 (byteOf root)
+
+  long-head : length head ≡ 13
+  long-head =
+      simp (length-append, length-tab 8 (byteOf cost), length-tab 4 (byteOf moves), length-tab 1 (byteOf root))
+
+  -- the three sections behind them, each written in a part of the buffer
+  pub sections : (m m₁ m₂ y₁ y₂ y₃ : List ℕ)
+      → m ≡ placed 0 (tab 8 (byteOf cost) ++ tab 4 (byteOf moves) ++ tab 1 (byteOf root)) l
+      → y₁ ≡ written 0 (fields 1 n parent) (midOf 13 (length m - 13) m) → m₁ ≡ putMid 13 (length m - 13) m y₁
+      → y₂ ≡ written 0 (fields 4 n (λ y. signed (u y))) (midOf (13 + n) (length m₁ - (13 + n)) m₁)
+      → m₂ ≡ putMid (13 + n) (length m₁ - (13 + n)) m₁ y₂
+      → y₃ ≡ written 0 (fields 4 (n * n) entry) (midOf (13 + 5 * n) (length m₂ - (13 + 5 * n)) m₂)
+      → putMid (13 + 5 * n) (length m₂ - (13 + 5 * n)) m₂ y₃ ≡ written 0 (record-bytes n cost moves root parent u entry) l
+  unfolding record-bytes
+  sections m m₁ m₂ y₁ y₂ y₃ e f₁ e₁ f₂ e₂ f₃ =
+      let p = length-rows 1 n (λ i. byteOf (parent i)) in
+      let q = length-rows 4 n (λ i. byteOf (signed (u i))) in
+      let r = length-rows 4 (n * n) (λ i. byteOf (entry i)) in
+      let hp = length-append head (fields 1 n parent) in
+      let hpq = length-append (head ++ fields 1 n parent) (fields 4 n (λ y. signed (u y))) in
+      placed-part (13 + 5 * n) (head ++ fields 1 n parent ++ fields 4 n (λ y. signed (u y))) (fields 4 (n * n) entry) l m₂ y₃
+      (omega (arith, long-head)) (omega arith)
+      (e₂ ∙ placed-part (13 + n) (head ++ fields 1 n parent) (fields 4 n (λ y. signed (u y))) l m₁ y₂ (omega (arith, long-head)) (omega arith)
+      (e₁ ∙ placed-part 13 head (fields 1 n parent) l m y₁ long-head (omega arith) e f₁) f₂) f₃
+      ∙ placed-front _ l ∙ simp append-assoc
+
+-- ---- the record by its entries
+
+fields-ext : (k m : ℕ) (f g : ℕ → ℕ) → ((i : ℕ) → i < m → f i ≡ g i) → fields k m f ≡ fields k m g
+fields-ext k m f g h = rows-ext k m (λ i. byteOf (f i)) (λ i. byteOf (g i)) (λ i j l _. ap (λ (x : ℕ). byteOf x j) (h i l))
+
+pub record-ext : (n cost moves root : ℕ) (p q : ℕ → ℕ) (u v : ℕ → ℤ) (e f : ℕ → ℕ) → ((y : ℕ) → y < n → p y ≡ q y)
+    → ((y : ℕ) → y < n → u y ≡ v y) → ((c : ℕ) → c < n * n → e c ≡ f c)
+    → record-bytes n cost moves root p u e ≡ record-bytes n cost moves root q v f
+unfolding record-bytes
+record-ext n cost moves root p q u v e f hp hu he =
+    rw (fields-ext 1 n p q hp, fields-ext 4 n (λ y. signed (u y)) (λ y. signed (v y)) (λ y l. ap signed (hu y l)), fields-ext 4 (n * n) e f he)

@@ -1,0 +1,121 @@
+// The host record, written into a lent buffer.
+ghost use mathlib.Core.Path.{_≡_};
+ghost use mathlib.Core.List.{_++_};
+ghost use Prim.Native.Nat.{_+_, _*_, _≤_, _<_};
+ghost use lib.ListN.{length, getD};
+ghost use lib.IntN.{pos};
+ghost use Rattle.arithmetic.specs.Table.{at, tab, written};
+ghost use Rattle.host_record.specs.Record.{byteOf, fields, signed, record-bytes, recordSize};
+ghost use Rattle.host_record.specs.Placed.{placed};
+
+// The 32 bits of z.
+fn bits_of(z: i32) -> u32
+    ensures { λ r. ⌜ r ≡ signed z ⌝ }
+{
+    if z < 0 {
+        (z as i64 + 4294967296) as u32
+    } else {
+        z as u32
+    }
+}
+
+// One byte of v, at place p.
+fn put_byte(p: usize, v: u32, out: &mut [u8])
+    requires { ⌜ p < length (now out) ⌝ }
+    ensures { λ _. ⌜ now (out .exit) ≡ placed p (tab 1 (byteOf v)) (now (out .entry)) ⌝ }
+{
+    out[p] = (v % 256) as u8;
+}
+
+// Four bytes of x, from place p on.
+fn put_word(p: usize, x: u32, out: &mut [u8])
+    requires { ⌜ p + 4 ≤ length (now out) ⌝ }
+    ensures { λ _. ⌜ now (out .exit) ≡ placed p (tab 4 (byteOf x)) (now (out .entry)) ⌝ }
+{
+    out[p] = (x % 256) as u8;
+    out[p + 1] = (x / 256 % 256) as u8;
+    out[p + 2] = (x / 65536 % 256) as u8;
+    out[p + 3] = (x / 16777216 % 256) as u8;
+}
+
+// Eight bytes of x.
+fn put_long(x: u64, out: &mut [u8])
+    requires { ⌜ 8 ≤ length (now out) ⌝ }
+    ensures { λ _. ⌜ now (out .exit) ≡ placed 0 (tab 8 (byteOf x)) (now (out .entry)) ⌝ }
+{
+    out[0] = (x % 256) as u8;
+    out[1] = (x / 256 % 256) as u8;
+    out[2] = (x / 65536 % 256) as u8;
+    out[3] = (x / 16777216 % 256) as u8;
+    out[4] = (x / 4294967296 % 256) as u8;
+    out[5] = (x / 1099511627776 % 256) as u8;
+    out[6] = (x / 281474976710656 % 256) as u8;
+    out[7] = (x / 72057594037927936 % 256) as u8;
+}
+
+// Cost, moves and root.
+fn write_figures(cost: u64, moves: u32, root: u32, out: &mut [u8])
+    requires { ⌜ 13 ≤ length (now out) ⌝ }
+    ensures { λ _. ⌜ now (out .exit)
+        ≡ placed 0 (tab 8 (byteOf cost) ++ tab 4 (byteOf moves) ++ tab 1 (byteOf root)) (now (out .entry)) ⌝ }
+{
+    put_long(cost, out);
+    put_word(8, moves, out);
+    put_byte(12, root, out);
+}
+
+// The section of the parents.
+fn write_parents(n: usize, parents: &[u32], out: &mut [u8])
+    requires { ⌜ (n ≤ length (now parents)) × (n ≤ length (now out)) ⌝ }
+    ensures { λ _. ⌜ now (out .exit) ≡ written 0 (fields 1 n (at (now (parents .entry)))) (now (out .entry)) ⌝ }
+{
+    for i in 0..n {
+        put_byte(i, parents[i], out);
+    }
+}
+
+// The section of the potential.
+fn write_potential(n: usize, potential: &[i32], out: &mut [u8])
+    requires { ⌜ (n ≤ length (now potential)) × (4 * n ≤ length (now out)) ⌝ }
+    ensures { λ _. ⌜ now (out .exit)
+        ≡ written 0 (fields 4 n (λ y. signed (getD (now (potential .entry)) y (pos 0)))) (now (out .entry)) ⌝ }
+{
+    for i in 0..n {
+        put_word(4 * i, bits_of(potential[i]), out);
+    }
+}
+
+// The section of the plan, which has m entries.
+fn write_plan(m: usize, plan: &[u32], out: &mut [u8])
+    requires { ⌜ (m ≤ length (now plan)) × (4 * m ≤ length (now out)) ⌝ }
+    ensures { λ _. ⌜ now (out .exit) ≡ written 0 (fields 4 m (at (now (plan .entry)))) (now (out .entry)) ⌝ }
+{
+    for i in 0..m {
+        put_word(4 * i, plan[i], out);
+    }
+}
+
+// The whole record.
+pub fn write_record(
+    n: usize,
+    cost: u64,
+    moves: u32,
+    root: u32,
+    parents: &[u32],
+    potential: &[i32],
+    plan: &[u32],
+    out: &mut [u8],
+)
+    requires { ⌜ (n ≤ 64) × (n ≤ length (now parents)) × (n ≤ length (now potential)) × (n * n ≤ length (now plan))
+        × (recordSize n ≤ length (now out)) ⌝ }
+    ensures { λ _. ⌜ now (out .exit) ≡ written 0
+        (record-bytes n cost moves root (at (now (parents .entry))) (λ y. getD (now (potential .entry)) y (pos 0))
+        (at (now (plan .entry)))) (now (out .entry)) ⌝ }
+{
+    write_figures(cost, moves, root, out);
+    write_parents(n, parents, &mut out[13..]);
+    let second = 13 + n;
+    write_potential(n, potential, &mut out[second..]);
+    let third = 13 + 5 * n;
+    write_plan(n * n, plan, &mut out[third..]);
+}

@@ -1,0 +1,4 @@
+pub mod Listing
+pub mod Wrote
+pub mod ListingLaws
+pub mod ListedLaws

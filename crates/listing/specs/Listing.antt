@@ -1,0 +1,80 @@
+-- Document 01, "listing": what the program prints, byte for byte.
+use Prim.Native.Nat.{ℕ, zero, suc, _+_, _/_, _%_}
+use mathlib.Core.Path.{_≡_}
+use mathlib.Core.Bool.{true, false, cond}
+use mathlib.Core.List.{List, [], _∷_, _++_}
+use lib.Dec.{ltb}
+use lib.IntN.{ℤ}
+use lib.ListN.{length}
+use Rattle.arithmetic.specs.Table.{written}
+use Rattle.transport_plan.specs.Plan.{moves}
+use Rattle.duality.specs.Best.{Best}
+use Rattle.image.specs.Image.{hasTree, vertexCount, amountBefore, amountAfter, rootOf, parentOf}
+use Rattle.weight_mover.specs.Run.{graphOf, imagePlan, weighedCost, answerRefusal}
+
+-- x in base ten, of at most k digits, without leading zeros
+unfoldable pub digits : ℕ → ℕ → List ℕ
+digits zero x = []
+digits (suc k) x = cond (ltb x 10) ((48 + x) ∷ []) (digits k (x / 10) ++ ((48 + x % 10) ∷ []))
+
+-- any number of 64 bits
+abbrev pub decimal : ℕ → List ℕ
+decimal x = digits 20 x
+
+-- a word, a space, a number and the end of the line
+abbrev pub line : List ℕ → ℕ → List ℕ
+line word x = word ++ (32 ∷ (decimal x ++ (10 ∷ [])))
+
+-- `cost`, `moves`, `best` and `refused`
+abbrev pub costWord : List ℕ
+costWord = 99 ∷ 111 ∷ 115 ∷ 116 ∷ []
+
+abbrev pub movesWord : List ℕ
+movesWord = 109 ∷ 111 ∷ 118 ∷ 101 ∷ 115 ∷ []
+
+abbrev pub bestWord : List ℕ
+bestWord = 98 ∷ 101 ∷ 115 ∷ 116 ∷ []
+
+abbrev pub refusedWord : List ℕ
+refusedWord = 114 ∷ 101 ∷ 102 ∷ 117 ∷ 115 ∷ 101 ∷ 100 ∷ []
+
+-- "each positive plan entry ... as from, to, amount"
+unfoldable pub entryLine : ℕ → ℕ → ℕ → List ℕ
+entryLine i j v = cond (ltb 0 v) (decimal i ++ line (32 ∷ decimal j) v) []
+
+-- "by row, then column": the first m entries of row i, and the first k rows of n
+unfoldable pub rowLines : (ℕ → ℕ) → ℕ → ℕ → List ℕ
+rowLines f i zero = []
+rowLines f i (suc m) = rowLines f i m ++ entryLine i m (f m)
+
+unfoldable pub planLines : (ℕ → ℕ → ℕ) → ℕ → ℕ → List ℕ
+planLines t n zero = []
+planLines t n (suc k) = planLines t n k ++ rowLines (t k) k n
+
+-- "With a tree it prints `cost`, `moves`, then each positive plan entry"
+unfoldable pub weighedListing : List ℕ → List ℕ
+weighedListing s =
+    line costWord (weighedCost s) ++ (line movesWord (moves (vertexCount s) (imagePlan s (rootOf s) (parentOf s)))
+    ++ planLines (imagePlan s (rootOf s) (parentOf s)) (vertexCount s) (vertexCount s))
+
+-- "Without one it prints `best` and the cost": a cost that demand 3 certifies
+pub record BestListing (s text : List ℕ) : Type 0 where
+  pub cost : ℕ
+  pub parents : ℕ → ℕ
+  pub u : ℕ → ℤ
+  pub best : Best (graphOf s) (amountBefore s) (amountAfter s) parents (imagePlan s 0 parents) u cost
+  pub text-is : text ≡ line bestWord cost
+
+-- the text that is printed for the image s
+pub record Listing (s text : List ℕ) : Type 0 where
+  -- "A refusal prints `refused` and the number"
+  pub refused : (answerRefusal s true ≡ 0 → ⊥) → text ≡ line refusedWord (answerRefusal s true)
+  pub weighed : answerRefusal s true ≡ 0 → hasTree s ≡ true → text ≡ weighedListing s
+  pub solved : answerRefusal s true ≡ 0 → hasTree s ≡ false → BestListing s text
+
+-- a listing of the image s, written into a lent buffer
+pub record Listed (s buffer : List ℕ) (size : ℕ) (buffer' : List ℕ) : Type 0 where
+  pub text : List ℕ
+  pub listing : Listing s text
+  pub buffer-is : buffer' ≡ written 0 text buffer
+  pub size-is : size ≡ length text

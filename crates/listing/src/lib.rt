@@ -1,0 +1,152 @@
+// The listing, written into a lent buffer: each writer puts its text from a place on and returns the place behind it.
+ghost use mathlib.Core.Path.{_≡_};
+ghost use mathlib.Core.List.{[], _∷_, _++_};
+ghost use Prim.Native.Nat.{_+_, _*_, _≤_, _<_};
+ghost use lib.ListN.{length};
+ghost use Rattle.arithmetic.specs.Table.{cell, written};
+ghost use Rattle.listing.specs.Listing.{decimal, line, costWord, movesWord, bestWord, refusedWord, entryLine, rowLines, planLines, Listed};
+ghost use Rattle.listing.specs.Wrote.{Wrote};
+use weight_mover::answer::answer_image;
+
+// One byte.
+fn write_byte(b: u8, from: usize, out: &mut [u8]) -> usize
+    requires { ⌜ from < length (now out) ⌝ }
+    ensures { λ r. ⌜ Wrote from (b ∷ []) (now (out .entry)) (now (out .exit)) r ⌝ }
+{
+    out[from] = b;
+    from + 1
+}
+
+// A word.
+fn write_word(word: &[u8], from: usize, out: &mut [u8]) -> usize
+    requires { ⌜ from + length (now word) ≤ length (now out) ⌝ }
+    ensures { λ r. ⌜ Wrote from (now (word .entry)) (now (out .entry)) (now (out .exit)) r ⌝ }
+{
+    let mut i = 0;
+    while i < word.len() {
+        out[from + i] = word[i];
+        i += 1;
+    }
+    from + i
+}
+
+// x in base ten, the last digit behind the others.
+fn write_number(x: u64, from: usize, out: &mut [u8]) -> usize
+    requires { ⌜ from + length (decimal x) ≤ length (now out) ⌝ }
+    ensures { λ r. ⌜ Wrote from (decimal x) (now (out .entry)) (now (out .exit)) r ⌝ }
+{
+    if x < 10 {
+        return write_byte((48 + x) as u8, from, out);
+    }
+    let last = write_number(x / 10, from, out);
+    write_byte((48 + x % 10) as u8, last, out)
+}
+
+// A space and x.
+fn write_spaced(x: u64, from: usize, out: &mut [u8]) -> usize
+    requires { ⌜ from + length (decimal x) < length (now out) ⌝ }
+    ensures { λ r. ⌜ Wrote from (32 ∷ decimal x) (now (out .entry)) (now (out .exit)) r ⌝ }
+{
+    let at = write_byte(32, from, out);
+    write_number(x, at, out)
+}
+
+// A word and x.
+fn write_line(word: &[u8], x: u64, from: usize, out: &mut [u8]) -> usize
+    requires { ⌜ from + length (line (now word) x) ≤ length (now out) ⌝ }
+    ensures { λ r. ⌜ Wrote from (line (now (word .entry)) x) (now (out .entry)) (now (out .exit)) r ⌝ }
+{
+    let first = write_word(word, from, out);
+    let second = write_spaced(x, first, out);
+    write_byte(10, second, out)
+}
+
+// The line of the entry v in row i, column j; none if it is 0.
+fn write_entry(i: usize, j: usize, v: u32, from: usize, out: &mut [u8]) -> usize
+    requires { ⌜ from + length (entryLine i j v) ≤ length (now out) ⌝ }
+    ensures { λ r. ⌜ Wrote from (entryLine i j v) (now (out .entry)) (now (out .exit)) r ⌝ }
+{
+    if v == 0 {
+        return from;
+    }
+    let first = write_number(i as u64, from, out);
+    let second = write_spaced(j as u64, first, out);
+    let third = write_spaced(v as u64, second, out);
+    write_byte(10, third, out)
+}
+
+// Row i, at most 17 bytes to an entry.
+fn write_row(n: usize, i: usize, plan: &[u32], from: usize, out: &mut [u8]) -> usize
+    requires { ⌜ (n ≤ 64) × (i < n) × (n * n ≤ length (now plan)) × (from + 17 * n ≤ length (now out)) ⌝ }
+    ensures { λ r. ⌜ (r ≤ from + 17 * n)
+        × Wrote from (rowLines (cell n (now (plan .entry)) i) i n) (now (out .entry)) (now (out .exit)) r ⌝ }
+{
+    let row = i * n;
+    let mut at = from;
+    for j in 0..n {
+        at = write_entry(i, j, plan[row + j], at, out);
+    }
+    at
+}
+
+// All rows.
+fn write_rows(n: usize, plan: &[u32], from: usize, out: &mut [u8]) -> usize
+    requires { ⌜ (n ≤ 64) × (n * n ≤ length (now plan)) × (from + 17 * (n * n) ≤ length (now out)) ⌝ }
+    ensures { λ r. ⌜ Wrote from (planLines (cell n (now (plan .entry))) n n) (now (out .entry)) (now (out .exit)) r ⌝ }
+{
+    let mut at = from;
+    for i in 0..n {
+        at = write_row(n, i, plan, at, out);
+    }
+    at
+}
+
+// The listing of a weighed tree.
+pub fn write_weighed(n: usize, cost: u64, moves: u32, plan: &[u32], out: &mut [u8]) -> usize
+    requires { ⌜ (n ≤ 64) × (n * n ≤ length (now plan)) × (131072 ≤ length (now out)) ⌝ }
+    ensures text { λ r. ⌜ now (out .exit) ≡ written 0
+        (line costWord cost ++ (line movesWord moves ++ planLines (cell n (now (plan .entry))) n n)) (now (out .entry)) ⌝ }
+    ensures size { λ r. ⌜ r
+        ≡ length (line costWord cost ++ (line movesWord moves ++ planLines (cell n (now (plan .entry))) n n)) ⌝ }
+{
+    let first = write_line(b"cost", cost, 0, out);
+    let second = write_line(b"moves", moves as u64, first, out);
+    write_rows(n, plan, second, out)
+}
+
+// The listing of the best answer.
+pub fn write_best(cost: u64, out: &mut [u8]) -> usize
+    requires { ⌜ 26 ≤ length (now out) ⌝ }
+    ensures text { λ r. ⌜ now (out .exit) ≡ written 0 (line bestWord cost) (now (out .entry)) ⌝ }
+    ensures size { λ r. ⌜ r ≡ length (line bestWord cost) ⌝ }
+{
+    write_line(b"best", cost, 0, out)
+}
+
+// The listing of refusal k.
+pub fn write_refused(k: u32, out: &mut [u8]) -> usize
+    requires { ⌜ 29 ≤ length (now out) ⌝ }
+    ensures text { λ r. ⌜ now (out .exit) ≡ written 0 (line refusedWord k) (now (out .entry)) ⌝ }
+    ensures size { λ r. ⌜ r ≡ length (line refusedWord k) ⌝ }
+{
+    write_line(b"refused", k as u64, 0, out)
+}
+
+// Writes the text that is printed for an image, and returns how long it is.
+pub fn write_listing(image: &[u8], out: &mut [u8]) -> usize
+    requires { ⌜ 131072 ≤ length (now out) ⌝ }
+    ensures { λ r. ⌜ Listed (now (image .entry)) (now (out .entry)) r (now (out .exit)) ⌝ }
+{
+    let mut parents = [0u32; 64];
+    let mut potential = [0i32; 64];
+    let mut plan = [0u32; 4096];
+    // room for the record of 64 vertices
+    let found = answer_image(image, 16717, &mut parents, &mut potential, &mut plan);
+    if found.refusal != 0 {
+        return write_refused(found.refusal, out);
+    }
+    if found.tree == 0 {
+        return write_best(found.cost, out);
+    }
+    write_weighed(found.n, found.cost, found.moves, &plan, out)
+}

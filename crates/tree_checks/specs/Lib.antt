@@ -1,0 +1,4 @@
+pub mod Checks
+pub mod TreeTests
+pub mod Walk
+pub mod ParentEdges

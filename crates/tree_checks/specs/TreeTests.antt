@@ -1,0 +1,177 @@
+-- What tests 8, 9 and 10 say, and that they hold together exactly of the spanning trees.
+use mathlib.Core.Path.{_≡_, refl, sym, ap}
+use mathlib.Core.Bool.{true, false, not, cond, _||_}
+use Prim.Native.Nat.{ℕ, zero, suc, _+_, _≤_, _<_}
+use native.Mathlib.Omega.{arith}
+use lib.Dec.{eqb, ltb}
+use borrow.Author.Tests.{eqb-true, eq-eqb, ne-eqb, ltb-true, lt-ltb}
+use Rattle.arithmetic.specs.Bools.{case≡, clash, is-false, and-l, and-r, and-true, or-elim, or-right, or-true-l, or-true-r, eqb-self, all, all-at, all-intro}
+use Rattle.rooted_tree.specs.Chain.{climb, depth}
+use Rattle.rooted_tree.specs.Rooted.{Rooted, rooted-of-rank}
+use Rattle.graph.specs.Graph.{Graph, joined}
+use Rattle.graph.specs.SpanningTree.{SpanningTree}
+use Rattle.graph.specs.Checks.{edgesOk}
+use Rattle.graph.specs.Accepted.{check-passed}
+use Rattle.graph.specs.EdgeLaws.{joined-in}
+use Rattle.tree_checks.specs.Checks.{parentsOk, treeEdgesOk, chainsOk, treeRefusal}
+
+-- ---- the row of each test
+
+-- 8: root and parents are below n, the root's parent is the root, and no second vertex is its own parent
+pub record Parents (n r : ℕ) (p : ℕ → ℕ) : Type 0 where
+  pub root : r < n
+  pub into : (x : ℕ) → x < n → p x < n
+  pub stay : p r ≡ r
+  pub alone : (x : ℕ) → x < n → p x ≡ x → x ≡ r
+
+module _ (n r : ℕ) (p : ℕ → ℕ) where
+  pub parents-say : parentsOk n r p ≡ true → Parents n r p
+  unfolding parentsOk
+  parents-say h =
+      let tail = and-r (ltb r n) _ h in
+      let rest = and-r (all n (λ x. ltb (p x) n)) _ tail in
+      record {
+        root = ltb-true r n (and-l (ltb r n) _ h);
+        into = λ x l. ltb-true (p x) n (all-at n (λ x. ltb (p x) n) (and-l (all n (λ x. ltb (p x) n)) _ tail) x l);
+        stay = eqb-true (p r) r (and-l (eqb (p r) r) _ rest);
+        alone = λ x l e.
+            or-elim (eqb x r) (not (eqb (p x) x)) (all-at n (λ x. eqb x r || not (eqb (p x) x)) (and-r (eqb (p r) r) _ rest) x l)
+            (λ t. eqb-true x r t)
+            (λ f. clash f (ap not (eq-eqb (p x) x e)));
+      }
+
+  pub parents-hold : Parents n r p → parentsOk n r p ≡ true
+  unfolding parentsOk
+  parents-hold t =
+      and-true _ _ (lt-ltb r n (t .root))
+      (and-true _ _ (all-intro n (λ x. ltb (p x) n) (λ x l. lt-ltb (p x) n (t .into x l)))
+      (and-true _ _ (eq-eqb (p r) r (t .stay))
+      (all-intro n (λ x. eqb x r || not (eqb (p x) x)) (λ x l. case≡ x r
+      (λ e. or-true-l _ _ (eq-eqb x r e))
+      (λ d. or-true-r (eqb x r) _ (ap not (ne-eqb (p x) x (λ e. d (t .alone x l e)))))))))
+
+  pub parents-fail : (Parents n r p → ⊥) → false ≡ parentsOk n r p
+  parents-fail f = sym (is-false _ (λ h. f (parents-say h)))
+
+  -- 10: every chain of parents reaches the root, by n steps
+  pub chains-say : chainsOk n r p ≡ true → (x : ℕ) → x < n → climb p n x ≡ r
+  unfolding chainsOk
+  chains-say h x l = eqb-true (climb p n x) r (all-at n (λ x. eqb (climb p n x) r) h x l)
+
+  pub chains-hold : ((x : ℕ) → x < n → climb p n x ≡ r) → chainsOk n r p ≡ true
+  unfolding chainsOk
+  chains-hold h = all-intro n (λ x. eqb (climb p n x) r) (λ x l. eq-eqb (climb p n x) r (h x l))
+
+  -- tests 8 and 10 make a rooted tree
+  pub tests-rooted : parentsOk n r p ≡ true → chainsOk n r p ≡ true → Rooted n r p
+  tests-rooted h k =
+      let t = parents-say h in
+      record { root = t .root; stay = t .stay; into = t .into; up = chains-say k }
+
+-- 9: each vertex but the root shares an edge with its parent
+module _ (g : Graph) (r : ℕ) (p : ℕ → ℕ) where
+  pub edges-say : treeEdgesOk g r p ≡ true → (x : ℕ) → x < g .n → (x ≡ r → ⊥) → joined g x (p x) ≡ true
+  unfolding treeEdgesOk
+  edges-say h x l d = or-right (eqb x r) _ (all-at (g .n) (λ x. eqb x r || joined g x (p x)) h x l) (ne-eqb x r d)
+
+  pub edges-hold : ((x : ℕ) → x < g .n → (x ≡ r → ⊥) → joined g x (p x) ≡ true) → treeEdgesOk g r p ≡ true
+  unfolding treeEdgesOk
+  edges-hold h =
+      all-intro (g .n) (λ x. eqb x r || joined g x (p x)) (λ x l. case≡ x r
+      (λ e. or-true-l _ _ (eq-eqb x r e))
+      (λ d. or-true-r (eqb x r) _ (h x l d)))
+
+-- ---- spanning trees
+
+climb-root : (r : ℕ) (p : ℕ → ℕ) → p r ≡ r → (k : ℕ) → climb p k r ≡ r
+unfolding climb
+climb-root r p e zero = refl
+climb-root r p e (suc k) = rw (e, climb-root r p e k)
+
+climb-on : (r : ℕ) (p : ℕ → ℕ) → p r ≡ r → (k m x : ℕ) → k ≤ m → climb p k x ≡ r → climb p m x ≡ r
+unfolding climb
+climb-on r p e zero m x l h = rw h (climb-root r p e m)
+climb-on r p e (suc k) zero x l h = absurd (omega arith)
+climb-on r p e (suc k) (suc m) x l h = climb-on r p e k m (p x) (omega arith) h
+
+-- once the chain has reached the root, more steps do not change the depth
+depth-on : (r : ℕ) (p : ℕ → ℕ) (k y : ℕ) → climb p k y ≡ r → depth p r (suc k) y ≡ depth p r k y
+unfolding depth climb
+depth-on r p zero y e = rw (e, eqb-self r)
+depth-on r p (suc k) y e = ap (λ (d : ℕ). cond (eqb y r) 0 (suc d)) (depth-on r p k (p y) e)
+
+depth-falls : (r : ℕ) (p : ℕ → ℕ) (k y : ℕ) → climb p k y ≡ r → (y ≡ r → ⊥) → depth p r k (p y) < depth p r k y
+unfolding depth climb
+depth-falls r p zero y e d = absurd (d e)
+depth-falls r p (suc k) y e d = rw (ne-eqb y r d) (omega (arith, depth-on r p k (p y) e))
+
+-- parents below n whose chains reach the root, by whatever number of steps, make a rooted tree
+module _ (n r : ℕ) (p : ℕ → ℕ) (root : r < n) (stay : p r ≡ r) (into : (x : ℕ) → x < n → p x < n)
+    (chain : (x : ℕ) → x < n → (k : ℕ) × (climb p k x ≡ r)) where
+  -- a number of steps that leads from every vertex to the root
+  steps : (m : ℕ) → m ≤ n → (k : ℕ) × ((x : ℕ) → x < m → climb p k x ≡ r)
+  steps zero l = (0, λ x k. absurd (omega arith))
+  steps (suc m) l =
+      let a = steps m (omega arith) in
+      let b = chain m (omega arith) in (
+        a .0 + b .0,
+        λ x k. case≡ x m
+            (λ e. rw e (climb-on r p stay (b .0) (a .0 + b .0) m (omega arith) (b .1)))
+            (λ d. climb-on r p stay (a .0) (a .0 + b .0) x (omega arith) (a .1 x (omega arith))),
+      )
+
+  pub chains-rooted : Rooted n r p
+  chains-rooted =
+      let k = steps n (omega arith) in
+      rooted-of-rank n r p (depth p r (k .0)) root stay into (λ y l d. depth-falls r p (k .0) y (k .1 y l) d)
+
+module _ (g : Graph) (r : ℕ) (p : ℕ → ℕ) (h : edgesOk g ≡ true) (t : SpanningTree g r p) where
+  pub spanning-into : (x : ℕ) → x < g .n → p x < g .n
+  spanning-into x l =
+      case≡ x r (λ e. rw (e, t .stay) (t .root)) (λ d. joined-in g h x (p x) (t .edge x l d) .1 .0)
+
+  -- a spanning tree is a rooted tree on the graph's vertices
+  pub spanning-rooted : Rooted (g .n) r p
+  spanning-rooted = chains-rooted (g .n) r p (t .root) (t .stay) spanning-into (t .chain)
+
+  -- tests 8 to 10 accept it
+  pub spanning-accepted : treeRefusal g r p ≡ 0
+  spanning-accepted =
+      rw (
+        parents-hold (g .n) r p (record {
+          root = t .root;
+          into = spanning-into;
+          stay = t .stay;
+          alone = λ x l e. case≡ x r (λ q. q) (λ d. absurd (joined-in g h x (p x) (t .edge x l d) .1 .1 (sym e)));
+        }),
+        edges-hold g r p (t .edge),
+        chains-hold (g .n) r p (spanning-rooted .up),
+      )
+
+-- what the tree's checks accept passes each of them
+pub record Passed (g : Graph) (r : ℕ) (p : ℕ → ℕ) : Type 0 where
+  pub parents : parentsOk (g .n) r p ≡ true
+  pub edges-ok : treeEdgesOk g r p ≡ true
+  pub chains : chainsOk (g .n) r p ≡ true
+
+module _ (g : Graph) (r : ℕ) (p : ℕ → ℕ) (h : treeRefusal g r p ≡ 0) where
+  pub accepted-passed : Passed g r p
+  accepted-passed =
+      let p8 = check-passed 8 (parentsOk (g .n) r p) _ (omega arith) h in
+      let p9 = check-passed 9 (treeEdgesOk g r p) _ (omega arith) (p8 .1) in
+      record { parents = p8 .0; edges-ok = p9 .0; chains = check-passed 10 (chainsOk (g .n) r p) 0 (omega arith) (p9 .1) .0 }
+
+  -- it is a spanning tree,
+  pub accepted-spanning : SpanningTree g r p
+  accepted-spanning =
+      let t = parents-say (g .n) r p (accepted-passed .parents) in
+      record {
+        root = t .root;
+        stay = t .stay;
+        edge = edges-say g r p (accepted-passed .edges-ok);
+        chain = λ x l. (g .n, chains-say (g .n) r p (accepted-passed .chains) x l);
+      }
+
+  -- and a rooted tree
+  pub accepted-rooted : Rooted (g .n) r p
+  accepted-rooted = tests-rooted (g .n) r p (accepted-passed .parents) (accepted-passed .chains)

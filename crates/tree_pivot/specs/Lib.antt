@@ -1,0 +1,10 @@
+pub mod Words
+pub mod Pivot
+pub mod PathReversal
+pub mod PivotCost
+pub mod Basis
+pub mod PathWalk
+pub mod PivotTables
+pub mod PivotTotals
+pub mod PivotPotential
+pub mod PivotBasis

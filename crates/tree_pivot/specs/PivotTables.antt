@@ -1,0 +1,150 @@
+-- The tables of a pivot: what is kept of each vertex is brought from the old tree to the new one by walks along paths.
+use mathlib.Core.Path.{_≡_, refl, sym, _∙_}
+use mathlib.Core.Bool.{Bool, true, false, cond}
+use mathlib.Core.List.{List}
+use Prim.Native.Nat.{ℕ, _+_, _-_, _*_, _%_, _^_, _≤_, _<_}
+use native.Mathlib.Nat.{zero-div}
+use native.Mathlib.Omega.{arith}
+use lib.ListN.{length, set, length-set}
+use lib.Seq.{getD-set-same, getD-set-other}
+use Rattle.arithmetic.specs.Bools.{case≡, clash}
+use Rattle.arithmetic.specs.Sum.{sum}
+use Rattle.arithmetic.specs.Table.{at}
+use Rattle.arithmetic.specs.Mask.{bit, mask}
+use Rattle.rooted_tree.specs.Chain.{below}
+use Rattle.rooted_tree.specs.Subtotal.{subtotal}
+use Rattle.transport_plan.specs.Plan.{lowest}
+use Rattle.tree_pivot.specs.Words.{Without, without-lowest}
+use Rattle.tree_pivot.specs.Pivot.{Pivot}
+use Rattle.tree_pivot.specs.PathReversal.{CanPivot}
+use Rattle.tree_pivot.specs.PathWalk.{CanWalk, passed, Stored, Handed}
+
+-- u, raised or lowered by d
+abbrev pub shifted : Bool → ℕ → ℕ → ℕ
+shifted true d u = u + d
+shifted false d u = u - d
+
+-- it is a word of w bits
+abbrev pub Room : ℕ → Bool → ℕ → ℕ → Type 0
+Room w true d u = u + d < 2 ^ w
+Room w false d u = d ≤ u
+
+-- a word of 32 bits is one of 64
+room-wide : (rises : Bool) (d u : ℕ) → Room 32 rises d u → Room 64 rises d u
+room-wide true d u h = omega arith
+room-wide false d u h = h
+
+shifted-fits : (rises : Bool) (d u : ℕ) → Room 32 rises d u → u < 2 ^ 32 → shifted rises d u < 2 ^ 32
+shifted-fits true d u h l = h
+shifted-fits false d u h l = omega arith
+
+-- ---- one table along a path
+
+-- the numbers from `from` up to y, and not y's, are raised or lowered by d
+abbrev pub PathShifted : ℕ → List ℕ → (from y : ℕ) → Bool → ℕ → (t u : List ℕ) → Type 0
+PathShifted n p from y rises d t u = Stored n (at p) from y (λ x k. k ≡ shifted rises d (at t x)) t u
+
+pub record CanShiftPath (n : ℕ) (p : List ℕ) (from stop : ℕ) (rises : Bool) (d : ℕ) (t : List ℕ) : Type 0 where
+  pub size : n ≤ length p
+  pub walk : CanWalk n (at p) from stop (length t)
+  pub room : (x : ℕ) → x < n → passed n (at p) from stop x ≡ true → Room 64 rises d (at t x)
+
+-- from a up to y, and not at y, each vertex has the total less the number of the vertex before it
+abbrev pub PathComplemented : ℕ → List ℕ → (a y total : ℕ) → (t u : List ℕ) → Type 0
+PathComplemented n p a y total t u = Stored n (at p) a y (λ x k. (e : ℕ) × (Handed n (at p) a t 0 x e × (k ≡ total - e))) t u
+
+pub record CanComplementPath (n : ℕ) (p : List ℕ) (a stop total : ℕ) (t : List ℕ) : Type 0 where
+  pub size : n ≤ length p
+  pub walk : CanWalk n (at p) a stop (length t)
+  pub part : (x : ℕ) → x < n → passed n (at p) a stop x ≡ true → at t x ≤ total
+
+-- from a up to y, and not at y, each vertex has the number of the vertex before it, and a the first
+abbrev pub PathAdvanced : ℕ → List ℕ → (a y first : ℕ) → (t u : List ℕ) → Type 0
+PathAdvanced n p a y first t u = Stored n (at p) a y (Handed n (at p) a t first) t u
+
+pub record CanAdvancePath (n : ℕ) (p : List ℕ) (a stop : ℕ) (t : List ℕ) : Type 0 where
+  pub size : n ≤ length p
+  pub walk : CanWalk n (at p) a stop (length t)
+
+-- ---- the subtotals of one mass
+
+-- the table has the total of f below each vertex
+abbrev pub Totals : ℕ → (ℕ → ℕ) → (ℕ → ℕ) → List ℕ → Type 0
+Totals n p f t = (x : ℕ) → x < n → at t x ≡ subtotal p n f x
+
+-- the subtree of c can be hung by a on b; j is above both sides
+pub record CanMoveTotals (n : ℕ) (p : List ℕ) (a b c j : ℕ) (t : List ℕ) : Type 0 where
+  pub can : CanPivot n p 0 a b c
+  pub size : n ≤ length t
+  pub j-low : j < n
+  pub over-b : below (at p) n b j ≡ true
+  pub over-c : below (at p) n c j ≡ true
+  pub mass : ℕ → ℕ
+  pub light : sum n mass < 2 ^ 64
+  pub totals : Totals n (at p) mass t
+
+-- the totals of the old tree have become those of the new one
+pub record TotalsMoved (n : ℕ) (p : List ℕ) (a b c : ℕ) (t u : List ℕ) : Type 0 where
+  pub size : length u ≡ length t
+  pub totals : (q f : ℕ → ℕ) → Pivot n 0 (at p) a b c q → Totals n (at p) f t → Totals n q f u
+
+-- ---- the potential of a subtree, given by its mask
+
+pub record CanShiftPotential (n subtree : ℕ) (rises : Bool) (d : ℕ) (t : List ℕ) : Type 0 where
+  pub few : n ≤ 64
+  pub size : n ≤ length t
+  pub word : subtree ≡ mask n (bit subtree)
+  pub room : (x : ℕ) → x < n → bit subtree x ≡ true → Room 32 rises d (at t x)
+
+-- the number of x, raised or lowered by d if x is of the subtree
+abbrev pub shiftedWithin : (subtree : ℕ) → Bool → ℕ → List ℕ → ℕ → ℕ
+shiftedWithin subtree rises d t x = cond (bit subtree x) (shifted rises d (at t x)) (at t x)
+
+-- the numbers of the subtree's vertices are raised or lowered by d
+pub record PotentialShifted (subtree : ℕ) (rises : Bool) (d : ℕ) (t u : List ℕ) (n : ℕ) : Type 0 where
+  pub size : length u ≡ length t
+  pub done : (x : ℕ) → x < n → at u x ≡ shiftedWithin subtree rises d t x
+
+-- what is left to do makes of u what the subtree makes of t
+pub record ShiftingPotential (n subtree : ℕ) (rises : Bool) (d : ℕ) (t u : List ℕ) (left : ℕ) : Type 0 where
+  pub can : CanShiftPotential n left rises d u
+  pub size : length u ≡ length t
+  pub same : (x : ℕ) → x < n → shiftedWithin left rises d u x ≡ shiftedWithin subtree rises d t x
+
+module _ {n subtree : ℕ} {rises : Bool} {d : ℕ} {t : List ℕ} where
+  pub potential-none : CanShiftPotential n subtree rises d t → ShiftingPotential n subtree rises d t t subtree
+  potential-none can = record { can = can; size = refl; same = λ x l. refl }
+
+  module _ {u : List ℕ} {left x : ℕ} (w : ShiftingPotential n subtree rises d t u left) (first : (x ≡ lowest (bit left) n 0) × (x < n)) where
+    pub potential-out : Without n left x ((1 * 2 ^ x) % 2 ^ 64)
+    potential-out = without-lowest n left x (w .can .few) (w .can .word) first
+
+    small : Room 32 rises d (at u x)
+    small = w .can .room x (first .1) (potential-out .has)
+
+    pub potential-room : Room 64 rises d (at u x)
+    potential-room = room-wide rises d (at u x) small
+
+    pub potential-fits : (k : ℕ) → k ≡ shifted rises d (at u x) → at u x < 2 ^ 32 → k < 2 ^ 32
+    potential-fits k e l = rw e (shifted-fits rises d (at u x) small l)
+
+    pub potential-more : (k : ℕ) → k ≡ shifted rises d (at u x) → ShiftingPotential n subtree rises d t (set u x k) (left - (1 * 2 ^ x) % 2 ^ 64)
+    potential-more k e = record {
+      can = record {
+        few = w .can .few;
+        size = rw (length-set u x k) (w .can .size);
+        word = potential-out .word;
+        room = λ y l h.
+            case≡ y x
+            (λ g. clash (rw g at h) (potential-out .gone))
+            (λ g. rw (getD-set-other u x y k 0 g) (w .can .room y l (sym (potential-out .kept y l g) ∙ h)));
+      };
+      size = length-set u x k ∙ w .size;
+      same = λ y l.
+          case≡ y x
+          (λ g. rw (g, potential-out .gone, getD-set-same u x k 0 (omega (arith, w .can .size, first .1))) (e ∙ rw (potential-out .has) at (w .same x (first .1))))
+          (λ g. rw (potential-out .kept y l g, getD-set-other u x y k 0 g) (w .same y l));
+    }
+
+  pub potential-end : {u : List ℕ} {left : ℕ} → ShiftingPotential n subtree rises d t u left → left ≡ 0 → PotentialShifted subtree rises d t u n
+  potential-end {u} {left} w e = record { size = w .size; done = λ x l. rw (e, zero-div (2 ^ x)) at (w .same x l) }

@@ -1,0 +1,173 @@
+// The pivot of the network simplex: a subtree is cut off and hung elsewhere, and every table of the basis follows.
+ghost use mathlib.Core.Path.{_≡_};
+ghost use Prim.Native.Nat.{ℕ, _≤_};
+ghost use Rattle.arithmetic.specs.Table.{at};
+ghost use Rattle.graph.specs.Graph.{Graph};
+ghost use Rattle.tree_pivot.specs.PathReversal.{CanPivot, Pivoted};
+ghost use Rattle.tree_pivot.specs.PivotPotential.{excess};
+ghost use Rattle.tree_pivot.specs.PivotBasis.{CanReversePath, PathReversed, CanExceed, CanPivotBasis, PivotInput, CheaperBasis};
+ghost use Rattle.tree_pivot.specs.PivotTables.{shifted, Room, CanShiftPath, PathShifted, CanComplementPath, PathComplemented, CanAdvancePath, PathAdvanced, CanMoveTotals, TotalsMoved, CanShiftPotential, PotentialShifted};
+
+fn shifted(rises: bool, d: u64, u: u64) -> u64
+    requires { ⌜ Room 64 rises d u ⌝ }
+    ensures { λ r. ⌜ r ≡ shifted rises d u ⌝ }
+{
+    if rises { u + d } else { u - d }
+}
+
+// Raises or lowers by d the number of each vertex from `from` up to `stop`, and not that of `stop`.
+fn shift_path(
+    n: usize,
+    from: usize,
+    stop: usize,
+    rises: bool,
+    d: u64,
+    parents: &[u32],
+    table: &mut [u64],
+)
+    requires { ⌜ CanShiftPath n (now parents) from stop rises d (now table) ⌝ }
+    ensures { λ _. ⌜ PathShifted n (now (parents .entry)) from stop rises d (now (table .entry)) (now (table .exit)) ⌝ }
+{
+    let mut y = from;
+    while y != stop {
+        table[y] = shifted(rises, d, table[y]);
+        y = parents[y] as usize;
+    }
+}
+
+// Reverses the totals of the path from a up to `stop`: what is now below a vertex is all but what was below the one before it.
+fn complement_path(n: usize, a: usize, stop: usize, total: u64, parents: &[u32], table: &mut [u64])
+    requires { ⌜ CanComplementPath n (now parents) a stop total (now table) ⌝ }
+    ensures { λ _. ⌜ PathComplemented n (now (parents .entry)) a stop total (now (table .entry)) (now (table .exit)) ⌝ }
+{
+    let mut y = a;
+    let mut handed: u64 = 0;
+    while y != stop {
+        let own = table[y];
+        table[y] = total - handed;
+        handed = own;
+        y = parents[y] as usize;
+    }
+}
+
+// Moves each length of the path from a up to `stop` one vertex up.
+fn advance_path(n: usize, a: usize, stop: usize, first: u32, parents: &[u32], above: &mut [u32])
+    requires { ⌜ CanAdvancePath n (now parents) a stop (now above) ⌝ }
+    ensures { λ _. ⌜ PathAdvanced n (now (parents .entry)) a stop first (now (above .entry)) (now (above .exit)) ⌝ }
+{
+    let mut y = a;
+    let mut handed = first;
+    while y != stop {
+        let own = above[y];
+        above[y] = handed;
+        handed = own;
+        y = parents[y] as usize;
+    }
+}
+
+// Hangs the subtree of c by its vertex a on b.
+fn reverse_parents(n: usize, a: usize, b: usize, c: usize, parents: &mut [u32])
+    requires { ⌜ (n ≤ 64) × CanPivot n (now parents) 0 a b c ⌝ }
+    ensures { λ _. ⌜ Pivoted n (now (parents .entry)) 0 a b c (now (parents .exit)) c ⌝ }
+{
+    let mut up = a;
+    let mut last = b;
+    while last != c {
+        let next = parents[up] as usize;
+        parents[up] = last as u32;
+        last = up;
+        up = next;
+    }
+}
+
+// Hangs the subtree of c by its vertex a on b, by an edge of that length.
+fn reverse_path(
+    n: usize,
+    a: usize,
+    b: usize,
+    c: usize,
+    length: u32,
+    parents: &mut [u32],
+    above: &mut [u32],
+)
+    requires { ⌜ CanReversePath n (now parents) (now above) a b c ⌝ }
+    ensures { λ _. ⌜ PathReversed n (now (parents .entry)) (now (above .entry)) a b c length (now (parents .exit)) (now (above .exit)) ⌝ }
+{
+    let over = parents[c] as usize;
+    advance_path(n, a, over, length, parents, above);
+    reverse_parents(n, a, b, c, parents);
+}
+
+// Moves the mass of the subtree of c, in a table of subtotals, to where a hangs on b.
+fn move_totals(
+    n: usize,
+    a: usize,
+    b: usize,
+    c: usize,
+    join: usize,
+    parents: &[u32],
+    table: &mut [u64],
+)
+    requires { ⌜ CanMoveTotals n (now parents) a b c join (now table) ⌝ }
+    ensures { λ _. ⌜ TotalsMoved n (now (parents .entry)) a b c (now (table .entry)) (now (table .exit)) ⌝ }
+{
+    let total = table[c];
+    let over = parents[c] as usize;
+    shift_path(n, over, join, false, total, parents, table);
+    shift_path(n, b, join, true, total, parents, table);
+    complement_path(n, a, over, total, parents, table);
+}
+
+// Raises or lowers the potential of each vertex of a subtree, given by its mask, by d.
+fn shift_potential(n: usize, subtree: u64, rises: bool, d: u32, potential: &mut [u32])
+    requires { ⌜ CanShiftPotential n subtree rises d (now potential) ⌝ }
+    ensures { λ _. ⌜ PotentialShifted subtree rises d (now (potential .entry)) (now (potential .exit)) n ⌝ }
+{
+    let mut left = subtree;
+    while left != 0 {
+        let x = transport_plan::lowest_vertex(n, left);
+        potential[x] = shifted(rises, d as u64, potential[x] as u64) as u32;
+        left = left - (1u64 << x);
+    }
+}
+
+// By how much the subtree's potential has to fall, or to rise, until the edge between a and b is tight.
+fn excess_of(rises: bool, a: usize, b: usize, length: u32, potential: &[u32]) -> u32
+    requires { ⌜ CanExceed rises (now potential) a b length ⌝ }
+    ensures { λ r. ⌜ r ≡ excess rises (at (now (potential .entry)) a) (at (now (potential .entry)) b) length ⌝ }
+{
+    if rises {
+        potential[b] - potential[a] - length
+    } else {
+        potential[a] - potential[b] - length
+    }
+}
+
+// The pivot: the edge between a and b enters and c leaves. The subtree of c is cut off and hung by a on b, by that edge; `join` is above both.
+pub fn pivot(
+    n: usize,
+    a: usize,
+    b: usize,
+    c: usize,
+    join: usize,
+    length: u32,
+    rises: bool,
+    parents: &mut [u32],
+    above: &mut [u32],
+    supply: &mut [u64],
+    demand: &mut [u64],
+    masks: &mut [u64],
+    potential: &mut [u32],
+)
+    requires { ⌜ PivotInput n a b c join length rises (now parents) (now above) (now supply) (now demand) (now masks) (now potential) ⌝ }
+    ensures { λ _. ⌜ ((g : Graph) (m v : ℕ → ℕ)
+        → CanPivotBasis g m v n a b c length rises (now (parents .entry)) (now (above .entry)) (now (supply .entry)) (now (demand .entry)) (now (masks .entry)) (now (potential .entry))
+        → CheaperBasis g m v (now (parents .entry)) (now (parents .exit)) (now (above .exit)) (now (supply .exit)) (now (demand .exit)) (now (masks .exit)) (now (potential .exit))) ⌝ }
+{
+    let d = excess_of(rises, a, b, length, potential);
+    move_totals(n, a, b, c, join, parents, supply);
+    move_totals(n, a, b, c, join, parents, demand);
+    move_totals(n, a, b, c, join, parents, masks);
+    reverse_path(n, a, b, c, length, parents, above);
+    shift_potential(n, masks[a], rises, d, potential);
+}

@@ -14,6 +14,8 @@ use Rattle.spanning_tree.specs.Weigh.{difference, imbalance, potential, treeCos
 use Rattle.transport_plan.specs.Plan.{moves}
 use Rattle.spanning_tree.specs.Evaluate.{Given, givenRefusal, treePlan}
 use Rattle.image.specs.Read.{lists, readRefusal}
+use Rattle.weight_mover.specs.Run.{weighedRecord}
+use Rattle.listing.specs.Listing.{weighedListing}
 
 -- a figure that the document gives, or is silent on
 pub data Said (A : Type 0) : Type 0 where
@@ -39,10 +41,12 @@ pub record Case : Type 0 where
   pub best : Said Certificate
   pub judged : Said ℕ
 
--- an image with the number that the reader gives it
+-- an image with the number that the reader gives it, and the host record and the listing of its tree
 pub record Bytes : Type 0 where
   pub image : List ℕ
   pub refusal : ℕ
+  pub host : Said (List ℕ)
+  pub listing : Said (List ℕ)
 
 abbrev pub sameℤ : ℤ → ℤ → Bool
 sameℤ (pos a) (pos b) = eqb a b
@@ -116,9 +120,11 @@ holds c =
     nu : ℕ → ℕ
     nu = at (w .nu)
 
--- the number of an image, with room for all that it may hold
+-- the number of an image, with room for all that it may hold, and the answer to its tree in bytes
 unfoldable pub reads : Bytes → Bool
-reads b = eqb (readRefusal (b .image) (lists room room room room room room)) (b .refusal)
+reads b =
+    eqb (readRefusal (b .image) (lists room room room room room room)) (b .refusal)
+    && (agrees (sames eqb) (weighedRecord (b .image)) (b .host) && agrees (sames eqb) (weighedListing (b .image)) (b .listing))
   where
     room : List ℕ
     room = tab 600 (λ i. 0)

@@ -13,9 +13,12 @@ use Rattle.spanning_tree.specs.Weigh.{imbalance, potential, treeCost}
 use Rattle.transport_plan.specs.Plan.{lowest, moved, settled, layer, layers, plan, moves}
 use Rattle.image.specs.Image.{sizeOk, sectionOk, layoutOk}
 use Rattle.image.specs.Read.{roomOk, readRefusal}
+use Rattle.host_record.specs.Record.{byteOf, record-bytes}
+use Rattle.weight_mover.specs.Run.{weighedRecord}
+use Rattle.listing.specs.Listing.{digits, entryLine, rowLines, planLines, weighedListing}
 use Rattle.worked_cases.specs.Figures.{sames, certifies, holds, reads, every}
 use Rattle.worked_cases.specs.Cases.{cases, images}
 
 pub cases-hold : every holds cases && every reads images ≡ true
-unfolding all any sum sumℤ tab rows climb below depth joined edgeLength verticesOk listsOk edgeOk lengthOk reached connected graphRefusal totalsOk totalsEqual parentsOk treeEdgesOk chainsOk imbalance potential treeCost lowest moved settled layer layers plan moves sizeOk sectionOk layoutOk roomOk readRefusal sames certifies holds reads every cases images
+unfolding all any sum sumℤ tab rows climb below depth joined edgeLength verticesOk listsOk edgeOk lengthOk reached connected graphRefusal totalsOk totalsEqual parentsOk treeEdgesOk chainsOk imbalance potential treeCost lowest moved settled layer layers plan moves sizeOk sectionOk layoutOk roomOk readRefusal byteOf record-bytes weighedRecord digits entryLine rowLines planLines weighedListing sames certifies holds reads every cases images
 cases-hold = refl

@@ -13,13 +13,14 @@ use borrow.Author.Count.{below-more}
 use Rattle.arithmetic.specs.Bools.{all, all-at, all-intro, case≡, clash, both, and-l, and-r, eqb-self}
 use Rattle.arithmetic.specs.Sum.{pick, pick-le, sum-change, sum-le, sum-one}
 use Rattle.arithmetic.specs.Table.{at}
-use Rattle.rooted_tree.specs.Rooted.{Rooted, tree-ind, rooted-of-rank}
+use Rattle.rooted_tree.specs.Rooted.{tree-ind}
 use Rattle.graph.specs.Graph.{Graph, graph, joins}
 use Rattle.graph.specs.Path.{Edge, Path, stay, step}
 use Rattle.graph.specs.Checks.{marked, reached, connected, edgesOk}
-use Rattle.graph.specs.EdgeLaws.{joins-ends, ends-joins, edge-turn, edge-joined, edge-order, edge-in}
+use Rattle.graph.specs.EdgeLaws.{joins-ends, ends-joins, edge-turn, edge-order}
 use Rattle.graph.specs.ConnectedLaws.{reached-in, reached-zero, reached-back, connected-from}
 use Rattle.graph.specs.FirstTree.{FirstTree, Searched}
+use Rattle.graph.specs.TreeOfRank.{Hung, parent-edge, rank-rooted, tree-of-rank}
 use Rattle.graph.specs.Marks.{seen, count, EdgeList, Hangs, Marks, Marked, Followed, Round}
 
 -- ---- one more vertex marked
@@ -209,33 +210,19 @@ module _ (n : ℕ) (a b l p s : List ℕ) (some : 0 < n) (few : n ≤ 64) (ok : 
     reached-seen (suc k) v h = reached-back g k v h (reached-seen k v) (λ x t r e. passes e (reached-seen k x r))
 
   module _ (every : all n (seen p) ≡ true) where
-    hang : (v : ℕ) → v < n → (v ≡ 0 → ⊥) → Hangs a b p s (m .rank) v
-    hang v lv d = m .hangs v (omega arith) d (all-at n (seen p) every v lv)
-
-    edge-of : (v : ℕ) → v < n → (v ≡ 0 → ⊥) → Edge g v (at p v) (at l (at s v))
-    edge-of v lv d = let h = hang v lv d in record { number = at s v; here = h .number; ends = h .ends; size = refl }
-
-    into : (v : ℕ) → v < n → at p v < n
-    into v lv = case≡ v 0 (λ e. rw (e, m .root) some) (λ d. edge-in g ok (edge-of v lv d) .1 .0)
-
-    rooted : Rooted n 0 (at p)
-    rooted = rooted-of-rank n 0 (at p) (m .rank) some (m .root) into (λ v lv d. hang v lv d .falls)
+    hung : (v : ℕ) → v < n → (v ≡ 0 → ⊥) → Hung g p s (m .rank) v
+    hung v lv d =
+        let h = m .hangs v (omega arith) d (all-at n (seen p) every v lv) in
+        record { number = h .number; ends = h .ends; falls = h .falls }
 
     path : (v : ℕ) → v < n → (t : ℕ) × Path g 0 v t
-    path = tree-ind rooted (λ v. (t : ℕ) × Path g 0 v t) (0, stay) (λ v lv d h. (h .0 + at l (at s v), step (h .1) (edge-turn g (edge-of v lv d))))
+    path =
+        tree-ind (rank-rooted g p s (m .rank) some ok (m .root) hung) (λ v. (t : ℕ) × Path g 0 v t)
+        (0, stay)
+        (λ v lv d h. (h .0 + at l (at s v), step (h .1) (edge-turn g (parent-edge g p s (m .rank) some ok (m .root) hung v lv d))))
 
     first-tree : FirstTree g p s
-    first-tree = record {
-      tree = record {
-        root = some;
-        stay = m .root;
-        edge = λ v lv d. edge-joined g (edge-of v lv d);
-        chain = λ v lv. (n, rooted .up v lv);
-      };
-      into = into;
-      number = λ v lv d. hang v lv d .number;
-      ends = λ v lv d. hang v lv d .ends;
-    }
+    first-tree = tree-of-rank g p s (m .rank) some ok (m .root) hung
 
   pub searched : ((e : ℕ) → e < length a → seen p (at a e) ≡ seen p (at b e)) → (r : Bool) → r ≡ all n (seen p) → Searched g r p s
   unfolding connected

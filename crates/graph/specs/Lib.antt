@@ -11,5 +11,6 @@ pub mod ConnectedLaws
 pub mod DistanceLaws
 pub mod FloydWarshall
 pub mod FirstTree
+pub mod TreeOfRank
 pub mod Marks
 pub mod Records

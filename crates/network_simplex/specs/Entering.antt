@@ -1,116 +1,167 @@
--- The entering edge: the one of a block of edges that the potential U violates the most, by changing along it by more than its length.
-use Prim.Native.Nat.{ℕ, _+_, _-_, _^_, _≤_, _<_, min}
+-- The entering edge: the one that the potential U violates the most, by changing along it by more than its length. It is found by heights,
+-- which measure the potential in units of 2 ^ 36 and have room beside it for the flows, by which edges that are violated equally are told apart.
+use Prim.Native.Nat.{ℕ, _+_, _-_, _*_, _^_, _≤_, _<_}
 use mathlib.Core.Path.{_≡_, refl}
 use mathlib.Core.List.{List}
 use mathlib.Core.Logic.{_⊎_, inl, inr, ⊎-elim}
 use native.Mathlib.Omega.{arith}
-use native.Mathlib.Decide.{decLt}
 use lib.ListN.{length}
 use borrow.Author.Count.{below-more}
 use Rattle.arithmetic.specs.Product.{gap}
 use Rattle.arithmetic.specs.Table.{at}
+use Rattle.tree_checks.specs.Walk.{Filled}
 
 -- by how much U changes along edge e beyond its length
 abbrev pub excess : List ℕ → List ℕ → List ℕ → List ℕ → ℕ → ℕ
 excess a b lengths U e = gap (at U (at a e)) (at U (at b e)) - at lengths e
 
--- the same counted from 2 ^ 32, and not cut off there
-abbrev pub raised : List ℕ → List ℕ → List ℕ → List ℕ → ℕ → ℕ
-raised a b lengths U e = 2 ^ 32 + gap (at U (at a e)) (at U (at b e)) - at lengths e
-
--- U violates none of the edges from `first` up to `end`
-abbrev pub NoneOf : List ℕ → List ℕ → List ℕ → List ℕ → ℕ → ℕ → Type 0
-NoneOf a b lengths U first end = (i : ℕ) → first ≤ i → i < end → gap (at U (at a i)) (at U (at b i)) ≤ at lengths i
-
--- the edges' ends have potentials
-pub record CanEnter (a b lengths U : List ℕ) : Type 0 where
-  pub same-b : length b ≡ length a
-  pub same-lengths : length lengths ≡ length a
-  pub low-a : (e : ℕ) → e < length a → at a e < length U
-  pub low-b : (e : ℕ) → e < length a → at b e < length U
-
--- of the edges from `first` up to k, `best` has the largest excess, which is `worst` when raised; or U violates none, and best is the number of edges
-pub record EnteringTo (a b lengths U : List ℕ) (first k best worst : ℕ) : Type 0 where
-  pub most : (e : ℕ) → e < k → first ≤ e → raised a b lengths U e ≤ worst
-  pub found : ((best ≡ length a) × (worst ≡ 2 ^ 32)) ⊎ (((first ≤ best) × (best < k)) × ((worst ≡ raised a b lengths U best) × (2 ^ 32 < worst)))
-
--- of the edges from `first` up to `end`, U violates e the most; or it violates none, and e is the number of edges
-pub record Worst (a b lengths U : List ℕ) (first end e : ℕ) : Type 0 where
-  pub none : length a ≤ e → NoneOf a b lengths U first end
-  pub some : e < length a → ((first ≤ e) × (e < end)) × (at lengths e < gap (at U (at a e)) (at U (at b e)))
-  pub most : e < length a → (i : ℕ) → first ≤ i → i < end → excess a b lengths U i ≤ excess a b lengths U e
-
--- of the up to 32 edges from some `first` on, e has the largest excess
-pub record WorstOfBlock (a b lengths U : List ℕ) (e : ℕ) : Type 0 where
-  pub first : ℕ
-  pub from : first ≤ e
-  pub to : e < first + 32
-  pub most : (i : ℕ) → first ≤ i → i < first + 32 → i < length a → excess a b lengths U i ≤ excess a b lengths U e
-
--- e is an edge that U violates, the worst of its block; or U violates none, and e is the number of edges
+-- e is the edge that U violates the most; or U violates none, and e is the number of edges
 pub record Entering (a b lengths U : List ℕ) (e : ℕ) : Type 0 where
   pub none : e ≡ length a → (i : ℕ) → i < length a → gap (at U (at a i)) (at U (at b i)) ≤ at lengths i
   pub some : (e ≡ length a → ⊥) → (e < length a) × (at lengths e < gap (at U (at a e)) (at U (at b e)))
-  pub most : (e ≡ length a → ⊥) → WorstOfBlock a b lengths U e
+  pub most : (e ≡ length a → ⊥) → (i : ℕ) → i < length a → excess a b lengths U i ≤ excess a b lengths U e
 
--- e can enter; or U violates none of the edges from `first` on, and e is the number of edges
-pub record EnteringFrom (a b lengths U : List ℕ) (first e : ℕ) : Type 0 where
-  pub none : e ≡ length a → NoneOf a b lengths U first (length a)
-  pub some : (e ≡ length a → ⊥) → Entering a b lengths U e
+-- ---- heights and reaches
 
-raised-le : (g l h m worst : ℕ) → 2 ^ 32 + g - l ≤ worst → worst ≡ 2 ^ 32 + h - m → 2 ^ 32 < worst → g - l ≤ h - m
-raised-le g l h m worst le is over = omega arith
+-- the height of x: its potential in units, and beside it the flow up from x
+abbrev pub heightOf : List ℕ → List ℕ → List ℕ → ℕ → ℕ
+heightOf supply demand U x = 2 ^ 36 * at U x + (2 ^ 32 + at supply x - at demand x)
 
-module _ (a b lengths U : List ℕ) where
-  pub entering-none : (first : ℕ) → EnteringTo a b lengths U first first (length a) (2 ^ 32)
-  entering-none first = record { most = λ e h l. absurd (omega arith); found = inl (refl, refl) }
+-- the reach of edge e: what its length in units leaves of 2 ^ 52
+abbrev pub reachOf : List ℕ → ℕ → ℕ
+reachOf lengths e = 2 ^ 52 - 2 ^ 36 * at lengths e
 
-  module _ (first k best worst x : ℕ) (so-far : EnteringTo a b lengths U first k best worst) (x-is : x ≡ raised a b lengths U k) where
-    pub entering-more : first ≤ k → worst < x → EnteringTo a b lengths U first (k + 1) k x
-    entering-more h l = record {
-      most = below-more (λ e. first ≤ e → raised a b lengths U e ≤ x) k (λ e i f. omega (arith, so-far .most e i f)) (λ f. omega (arith, x-is));
-      found = inr ((h, omega arith), (x-is, ⊎-elim (λ f. omega arith) (λ f. omega arith) (so-far .found)));
+-- by how much the height changes along edge e beyond its length, counted from 2 ^ 52
+abbrev pub raised : List ℕ → List ℕ → List ℕ → List ℕ → ℕ → ℕ
+raised a b reach height e = at reach e + gap (at height (at a e)) (at height (at b e))
+
+-- the m edges have the reaches of their lengths
+pub record Reaches (m : ℕ) (lengths reach : List ℕ) : Type 0 where
+  pub each : (e : ℕ) → e < m → at reach e + 2 ^ 36 * at lengths e ≡ 2 ^ 52
+
+pub record CanReach (lengths out : List ℕ) : Type 0 where
+  pub room : length lengths ≤ length out
+  pub short : (e : ℕ) → e < length lengths → at lengths e ≤ 65535
+
+pub record CanRise (n : ℕ) (supply demand U out : List ℕ) : Type 0 where
+  pub supply-size : n ≤ length supply
+  pub demand-size : n ≤ length demand
+  pub potential-size : n ≤ length U
+  pub room : n ≤ length out
+  pub small : (x : ℕ) → x < n → at U x < 2 ^ 24
+  pub light : (x : ℕ) → x < n → (at supply x ≤ 2 ^ 32) × (at demand x ≤ 2 ^ 32)
+
+-- the edges' ends have heights
+pub record CanScan (a b reach height : List ℕ) : Type 0 where
+  pub same-b : length b ≡ length a
+  pub reach-size : length a ≤ length reach
+  pub near : (e : ℕ) → e < length a → at reach e ≤ 2 ^ 52
+  pub low-a : (e : ℕ) → e < length a → (at a e < length height) × (at height (at a e) < 2 ^ 61)
+  pub low-b : (e : ℕ) → e < length a → (at b e < length height) × (at height (at b e) < 2 ^ 61)
+
+pub record CanEnter (n : ℕ) (a b reach supply demand U : List ℕ) : Type 0 where
+  pub few : n ≤ 64
+  pub same-b : length b ≡ length a
+  pub low-a : (e : ℕ) → e < length a → at a e < n
+  pub low-b : (e : ℕ) → e < length a → at b e < n
+  pub reach-size : length a ≤ length reach
+  pub near : (e : ℕ) → e < length a → at reach e ≤ 2 ^ 52
+  pub supply-size : n ≤ length supply
+  pub demand-size : n ≤ length demand
+  pub potential-size : n ≤ length U
+  pub small : (x : ℕ) → x < n → at U x < 2 ^ 24
+  pub light : (x : ℕ) → x < n → (at supply x ≤ 2 ^ 32) × (at demand x ≤ 2 ^ 32)
+
+pub reaches-of : {lengths old reach : List ℕ} → CanReach lengths old → Filled (length lengths) (reachOf lengths) old reach
+    → Reaches (length lengths) lengths reach
+reaches-of can filled = record { each = λ e l. omega (arith, filled .each e l, can .short e l) }
+
+-- ---- the largest excess
+
+-- e has the largest excess; or none has half a unit, and e is the number of edges
+pub record Tallest (a b reach height : List ℕ) (e : ℕ) : Type 0 where
+  pub none : e ≡ length a → (i : ℕ) → i < length a → raised a b reach height i ≤ 2 ^ 52 + 2 ^ 35
+  pub some : (e ≡ length a → ⊥) → (e < length a) × (2 ^ 52 + 2 ^ 35 < raised a b reach height e)
+  pub most : (e ≡ length a → ⊥) → (i : ℕ) → i < length a → raised a b reach height i ≤ raised a b reach height e
+
+-- the same of the edges before k, with the largest excess `worst`
+pub record TallestTo (a b reach height : List ℕ) (k best worst : ℕ) : Type 0 where
+  pub most : (e : ℕ) → e < k → raised a b reach height e ≤ worst
+  pub found : ((best ≡ length a) × (worst ≡ 2 ^ 52 + 2 ^ 35)) ⊎ ((best < k) × ((worst ≡ raised a b reach height best) × (2 ^ 52 + 2 ^ 35 < worst)))
+
+module _ (a b reach height : List ℕ) where
+  pub tallest-none : TallestTo a b reach height 0 (length a) (2 ^ 52 + 2 ^ 35)
+  tallest-none = record { most = λ e h. absurd (omega arith); found = inl (refl, refl) }
+
+  module _ (k best worst x : ℕ) (so-far : TallestTo a b reach height k best worst) (x-is : x ≡ raised a b reach height k) where
+    pub tallest-more : worst < x → TallestTo a b reach height (k + 1) k x
+    tallest-more l = record {
+      most = below-more (λ e. raised a b reach height e ≤ x) k (λ e i. omega (arith, so-far .most e i)) (omega (arith, x-is));
+      found = inr (omega arith, (x-is, ⊎-elim (λ f. omega arith) (λ f. omega arith) (so-far .found)));
     }
 
-    pub entering-keep : x ≤ worst → EnteringTo a b lengths U first (k + 1) best worst
-    entering-keep l = record {
-      most = below-more (λ e. first ≤ e → raised a b lengths U e ≤ worst) k (so-far .most) (λ f. omega (arith, x-is));
-      found = ⊎-elim inl (λ f. inr ((f .0 .0, omega arith), f .1)) (so-far .found);
+    pub tallest-keep : x ≤ worst → TallestTo a b reach height (k + 1) best worst
+    tallest-keep l = record {
+      most = below-more (λ e. raised a b reach height e ≤ worst) k (so-far .most) (omega (arith, x-is));
+      found = ⊎-elim inl (λ f. inr (omega arith, f .1)) (so-far .found);
     }
 
-  pub entering-end : (first end k best worst : ℕ) → end ≤ k → k ≤ end → end ≤ length a → EnteringTo a b lengths U first k best worst
-      → Worst a b lengths U first end best
-  entering-end first end k best worst all only low w = record {
-    none = λ l i f h. ⊎-elim (λ d. omega (arith, w .most i (omega arith) f)) (λ d. absurd (omega arith)) (w .found);
-    some = λ l. ⊎-elim (λ d. absurd (omega arith)) (λ d. ((d .0 .0, omega arith), omega arith)) (w .found);
-    most = λ l i f h. ⊎-elim (λ d. absurd (omega arith)) (λ d. raised-le _ _ _ _ _ (w .most i (omega arith) f) (d .1 .0) (d .1 .1)) (w .found);
+  pub tallest-end : (k best worst : ℕ) → length a ≤ k → k ≤ length a → TallestTo a b reach height k best worst → Tallest a b reach height best
+  tallest-end k best worst all only w = record {
+    none = λ e i l. ⊎-elim (λ d. omega (arith, w .most i (omega arith))) (λ d. absurd (omega arith)) (w .found);
+    some = λ ne. ⊎-elim (λ d. absurd (ne (d .0))) (λ d. (omega arith, omega arith)) (w .found);
+    most = λ ne i l. ⊎-elim (λ d. absurd (ne (d .0))) (λ d. omega (arith, w .most i (omega arith))) (w .found);
   }
 
-  module _ (start end e : ℕ) (end-is : end ≡ min (length a) (start + 32)) (worst : Worst a b lengths U start end e) where
-    pub block-none : (first : ℕ) → length a ≤ e → NoneOf a b lengths U first start → NoneOf a b lengths U first end
-    block-none first h before i f l = elim (decLt i start) [ yes p ↦ before i f p | no p ↦ worst .none h i (omega arith) l ]
+-- ---- what heights say of the potential
 
-    pub block-some : (first : ℕ) → e < length a → EnteringFrom a b lengths U first e
-    block-some first l = record {
-      none = λ q. absurd (omega arith);
-      some = λ ne. record {
-        none = λ q. absurd (ne q);
-        some = λ _. (l, worst .some l .1);
-        most = λ _. record {
-          first = start;
-          from = worst .some l .0 .0;
-          to = omega (arith, worst .some l .0 .1);
-          most = λ i f h low. worst .most l i f (omega arith);
-        };
-      };
+-- h is u in units, with less than a quarter of a unit beside it
+record Measures (h u : ℕ) : Type 0 where
+  low : 2 ^ 36 * u ≤ h
+  high : h ≤ 2 ^ 36 * u + 2 ^ 33
+
+module _ {h k u w : ℕ} (m : Measures h u) (o : Measures k w) where
+  gap-low : 2 ^ 36 * gap u w ≤ gap h k + 2 ^ 33
+  gap-low = omega (arith, m .low, m .high, o .low, o .high)
+
+  gap-high : gap h k ≤ 2 ^ 36 * gap u w + 2 ^ 33
+  gap-high = omega (arith, m .low, m .high, o .low, o .high)
+
+-- an excess that is not larger in fine measure is not larger
+fine-le : (d l h r d' l' h' r' : ℕ) → r + 2 ^ 36 * l ≡ 2 ^ 52 → r' + 2 ^ 36 * l' ≡ 2 ^ 52 → 2 ^ 36 * d ≤ h + 2 ^ 33 → h' ≤ 2 ^ 36 * d' + 2 ^ 33
+    → r + h ≤ r' + h' → d - l ≤ d' - l'
+fine-le d l h r d' l' h' r' reach reach' low high le = omega arith
+
+height-measures : (u s d : ℕ) → s ≤ 2 ^ 32 → d ≤ 2 ^ 32 → Measures (2 ^ 36 * u + (2 ^ 32 + s - d)) u
+height-measures u s d l k = record { low = omega arith; high = omega arith }
+
+module _ {n : ℕ} {a b reach supply demand U : List ℕ} (can : CanEnter n a b reach supply demand U) where
+  module _ {old height : List ℕ} (filled : Filled n (heightOf supply demand U) old height) where
+    measured : (x : ℕ) → x < n → Measures (at height x) (at U x)
+    measured x l = rw (filled .each x l) (height-measures (at U x) _ _ (can .light x l .0) (can .light x l .1))
+
+    scanned : (x : ℕ) → x < n → n ≤ length old → (x < length height) × (at height x < 2 ^ 61)
+    scanned x l room = (omega (arith, filled .size), omega (arith, measured x l .high, can .small x l))
+
+    pub can-scan : n ≤ length old → CanScan a b reach height
+    can-scan room = record {
+      same-b = can .same-b;
+      reach-size = can .reach-size;
+      near = can .near;
+      low-a = λ e l. scanned (at a e) (can .low-a e l) room;
+      low-b = λ e l. scanned (at b e) (can .low-b e l) room;
     }
 
-  pub from-end : (first start : ℕ) → length a ≤ start → NoneOf a b lengths U first start → EnteringFrom a b lengths U first (length a)
-  from-end first start h before = record { none = λ q i f l. before i f (omega arith); some = λ ne. absurd (ne refl) }
+    module _ {lengths : List ℕ} (reaches : Reaches (length a) lengths reach) where
+      low : (e : ℕ) → e < length a → 2 ^ 36 * gap (at U (at a e)) (at U (at b e)) ≤ gap (at height (at a e)) (at height (at b e)) + 2 ^ 33
+      low e l = gap-low (measured (at a e) (can .low-a e l)) (measured (at b e) (can .low-b e l))
 
-  pub from-all : (e : ℕ) → EnteringFrom a b lengths U 0 e → Entering a b lengths U e
-  from-all e w = record {
-    none = λ q i l. w .none q i (omega arith) l;
-    some = λ ne. w .some ne .some ne;
-    most = λ ne. w .some ne .most ne;
-  }
+      high : (e : ℕ) → e < length a → gap (at height (at a e)) (at height (at b e)) ≤ 2 ^ 36 * gap (at U (at a e)) (at U (at b e)) + 2 ^ 33
+      high e l = gap-high (measured (at a e) (can .low-a e l)) (measured (at b e) (can .low-b e l))
+
+      pub enters : {e : ℕ} → Tallest a b reach height e → Entering a b lengths U e
+      enters {e} w = record {
+        none = λ q i l. omega (arith, w .none q i l, reaches .each i l, low i l);
+        some = λ ne. let s = w .some ne in (s .0, omega (arith, s .1, reaches .each e (s .0), high e (s .0)));
+        most = λ ne i l. let s = w .some ne .0 in fine-le _ _ _ _ _ _ _ _ (reaches .each i l) (reaches .each e s) (low i l) (high e s) (w .most ne i l);
+      }

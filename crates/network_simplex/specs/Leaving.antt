@@ -236,6 +236,13 @@ leaving-of {c = c} more-is less-is l =
 
 module _ {g : Graph} {m v : ℕ → ℕ} {parents above supply demand masks potential : List ℕ}
     (basis : Basis g m v parents above supply demand masks potential) where
+  -- the masses below a vertex weigh no more than all
+  pub masses-light : Network g m v → (x : ℕ) → x < g .n → (at supply x ≤ 2 ^ 32) × (at demand x ≤ 2 ^ 32)
+  masses-light net x l = (
+    omega (arith, basis .supply-is x l, subtotal-le (g .n) (at parents) m x, net .light),
+    omega (arith, basis .demand-is x l, subtotal-le (g .n) (at parents) v x, net .light, basis .balances .same),
+  )
+
   -- where the potential falls from s to t there is a flow against the cycle
   pub can-leave : {s t join : ℕ} → Network g m v → s < g .n → t < g .n → at potential t < at potential s
       → Join (g .n) (at parents) s t join
@@ -248,10 +255,7 @@ module _ {g : Graph} {m v : ℕ → ℕ} {parents above supply demand masks pote
     s-low = s-low;
     t-low = t-low;
     join-is = j;
-    light = λ x l. (
-      omega (arith, basis .supply-is x l, subtotal-le (g .n) (at parents) m x, net .light),
-      omega (arith, basis .demand-is x l, subtotal-le (g .n) (at parents) v x, net .light, basis .balances .same),
-    );
+    light = λ x l. (omega (arith, masses-light net x l), omega (arith, masses-light net x l));
     against =
         let z = candidate-exists (basis .tree) (basis .balances) s t s-low t-low falls in (
           z .0,

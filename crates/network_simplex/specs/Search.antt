@@ -15,7 +15,8 @@ use Rattle.rooted_tree.specs.Rooted.{depth-lt}
 use Rattle.rooted_tree.specs.Flow.{flowCost, tree-strong, agrees-near}
 use Rattle.graph.specs.Graph.{Graph, edges, joined, edgeLength}
 use Rattle.graph.specs.Accepted.{Accepted, lists-in}
-use Rattle.graph.specs.EdgeLaws.{edge-up, edge-down, edge-order, edge-joined, edge-size}
+use Rattle.graph.specs.EdgeLaws.{edge-up, edge-down, edge-order, edge-joined, edge-size, edge-most}
+use Rattle.tree_checks.specs.Walk.{Filled}
 use Rattle.spanning_tree.specs.Weigh.{toParent}
 use Rattle.spanning_tree.specs.WeighLaws.{costFrom, treeCost-flow}
 use Rattle.duality.specs.BestLaws.{Certificate}
@@ -24,9 +25,9 @@ use Rattle.tree_pivot.specs.PivotPotential.{near-root}
 use Rattle.tree_pivot.specs.PivotBasis.{CanPivotBasis, Joins, CheaperBasis}
 use Rattle.network_simplex.specs.Perturbed.{supplyOf, demandOf, true-agrees}
 use Rattle.network_simplex.specs.FirstBasis.{CanStart, vertices, network-of}
-use Rattle.network_simplex.specs.Entering.{CanEnter, Entering}
+use Rattle.network_simplex.specs.Entering.{Reaches, CanReach, reachOf, reaches-of, CanEnter, Entering}
 use Rattle.network_simplex.specs.Join.{Join, CanJoin, can-join}
-use Rattle.network_simplex.specs.Leaving.{CanLeave, Leaves, can-leave, leaving-s, leaving-t}
+use Rattle.network_simplex.specs.Leaving.{CanLeave, Leaves, masses-light, can-leave, leaving-s, leaving-t}
 
 -- ---- one step
 
@@ -209,17 +210,56 @@ basis-cost {g} basis =
     (λ e. rw e)
     (λ d. rw (ne-eqb x 0 d, basis .above-is x l d, basis .supply-is x l, basis .demand-is x l)))
 
+module _ {g : Graph} {m v : ℕ → ℕ} {parents above supply demand masks potential : List ℕ} (net : Network g m v)
+    (basis : Basis g m v parents above supply demand masks potential) where
+  -- a potential is no further from the offset than 63 edges are long
+  potential-small : (x : ℕ) → x < g .n → at potential x < 2 ^ 24
+  potential-small x l =
+      omega (
+        arith,
+        near-root (basis .tree) (at potential)
+            (λ y k d.
+            let near = agrees-near _ _ _ _ _ (basis .balances .agrees y k d) in
+            let s = net .short y (at parents y) in
+            (omega arith, omega arith))
+            x l,
+        depth-lt (basis .tree) x l,
+        basis .grounded,
+        net .few,
+      )
+
+module _ {g : Graph} {parents above supply demand masks potential : List ℕ} (can : CanSearch g parents above supply demand masks potential) where
+  pub search-reach : {reach : List ℕ} → length reach ≡ 512 → CanReach (g .lengths) reach
+  search-reach size =
+      let lists = lists-in g (can .accepted .lists) in
+      record {
+        room = omega (arith, lists);
+        short = λ e l. edge-most g (can .accepted .lengths) (edge-up g e (omega (arith, lists)));
+      }
+
+  pub search-reaches : {old reach : List ℕ} → length old ≡ 512 → Filled (length (g .lengths)) (reachOf (g .lengths)) old reach
+      → Reaches (edges g) (g .lengths) reach
+  search-reaches size filled = rw (lists-in g (can .accepted .lists) .1 .1) at (reaches-of (search-reach size) filled)
+
 module _ {g : Graph} {parents₀ above₀ supply₀ demand₀ masks₀ potential₀ : List ℕ} (can : CanSearch g parents₀ above₀ supply₀ demand₀ masks₀ potential₀)
     {parents above supply demand masks potential : List ℕ} (kept : Kept g parents₀ above₀ supply₀ demand₀ masks₀ potential₀ parents above supply demand masks potential) where
   pub search-basis : Basis g (can .m) (can .v) parents above supply demand masks potential
   search-basis = kept (can .m) (can .v) (can .network) (can .basis)
 
-  pub search-enters : CanEnter (g .lower) (g .upper) (g .lengths) potential
-  search-enters = record {
+  pub search-enters : {reach : List ℕ} → length reach ≡ 512 → Reaches (edges g) (g .lengths) reach
+      → CanEnter (g .n) (g .lower) (g .upper) reach supply demand potential
+  search-enters size reaches = record {
+    few = can .network .few;
     same-b = lists-in g (can .accepted .lists) .1 .0;
-    same-lengths = lists-in g (can .accepted .lists) .1 .1;
-    low-a = λ e l. omega (arith, edge-order g (can .accepted .edges) e l, search-basis .potential-size, can .network .few);
-    low-b = λ e l. omega (arith, edge-order g (can .accepted .edges) e l, search-basis .potential-size, can .network .few);
+    low-a = λ e l. omega (arith, edge-order g (can .accepted .edges) e l);
+    low-b = λ e l. omega (arith, edge-order g (can .accepted .edges) e l);
+    reach-size = omega (arith, lists-in g (can .accepted .lists) .0);
+    near = λ e l. omega (arith, reaches .each e l);
+    supply-size = omega (arith, search-basis .supply-size, can .network .few);
+    demand-size = omega (arith, search-basis .demand-size, can .network .few);
+    potential-size = omega (arith, search-basis .potential-size, can .network .few);
+    small = potential-small (can .network) search-basis;
+    light = λ x l. masses-light search-basis (can .network) x l;
   }
 
   pub search-improves : {e : ℕ} → Entering (g .lower) (g .upper) (g .lengths) potential e → e < edges g
@@ -276,22 +316,6 @@ module _ {g : Graph} {mu nu parents₀ edge : List ℕ} (can : CanStart g mu nu 
         ∙ ap (λ (c : ℕ). sum (g .n) (λ y. at potential y * at nu y) + c) (sym (treeCost-flow g 0 (at parents) (at mu) (at nu)));
   }
 
-  -- a potential is no further from the offset than 63 edges are long
-  potential-small : (x : ℕ) → x < g .n → at potential x < 2 ^ 24
-  potential-small x l =
-      omega (
-        arith,
-        near-root (best .basis .tree) (at potential)
-            (λ y k d.
-            let near = agrees-near _ _ _ _ _ (best .basis .balances .agrees y k d) in
-            let s = network-of can .short y (at parents y) in
-            (omega arith, omega arith))
-            x l,
-        depth-lt (best .basis .tree) x l,
-        best .basis .grounded,
-        vertices can,
-      )
-
   pub best-tree : BestTree g (at mu) (at nu) parents potential
   best-tree = record {
     parents-size = best .basis .parents-size;
@@ -299,5 +323,5 @@ module _ {g : Graph} {mu nu parents₀ edge : List ℕ} (can : CanStart g mu nu 
     certificate = certificate-of;
     into = best .basis .tree .into;
     grounded = best .basis .grounded;
-    small = potential-small;
+    small = potential-small (network-of can) (best .basis);
   }

@@ -1,50 +1,93 @@
 // The edge that enters the tree.
 ghost use mathlib.Core.Path.{_≡_};
-ghost use Prim.Native.Nat.{_+_, _≤_, _<_, min};
+ghost use mathlib.Core.List.{List};
+ghost use Prim.Native.Nat.{ℕ, _+_, _-_, _*_, _^_, _≤_, _<_};
 ghost use lib.ListN.{length};
 ghost use Rattle.arithmetic.specs.Product.{gap};
-ghost use Rattle.network_simplex.specs.Entering.{CanEnter, raised, Worst, EnteringFrom, Entering};
+ghost use Rattle.arithmetic.specs.Table.{at};
+ghost use Rattle.tree_checks.specs.Walk.{Filled};
+ghost use Rattle.network_simplex.specs.Entering.{heightOf, reachOf, raised, Reaches, CanReach, CanRise, CanScan, Tallest, CanEnter, Entering};
 
-// Edges that are looked at together.
-const BLOCK: usize = 32;
+// A potential of 1, in the fine measure of heights.
+const UNIT: u64 = 1 << 36;
+
+// More than any flow.
+const FLOW: u64 = 1 << 32;
 
 // Excesses are counted from here, so that an edge within its length needs no case of its own.
-const LEVEL: u64 = 1 << 32;
+const LEVEL: u64 = 1 << 52;
 
-// How far apart two potentials are.
-fn change(u: u32, w: u32) -> u32
+// Flows make up less, and a violation makes up more.
+const HALF: u64 = 1 << 35;
+
+// What an edge of this length leaves of the level.
+fn reach_of(length: u32) -> u64
+    requires { ⌜ length ≤ 65535 ⌝ }
+    ensures { λ r. ⌜ r ≡ 2 ^ 52 - 2 ^ 36 * length ⌝ }
+{
+    LEVEL - UNIT * length as u64
+}
+
+// The reach of every edge.
+pub fn reaches(lengths: &[u32], out: &mut [u64])
+    requires { ⌜ CanReach (now lengths) (now out) ⌝ }
+    ensures { λ _. ⌜ Filled (length (now (lengths .entry))) (reachOf (now (lengths .entry))) (now (out .entry)) (now (out .exit)) ⌝ }
+{
+    let mut e = 0;
+    while e < lengths.len() {
+        out[e] = reach_of(lengths[e]);
+        e += 1;
+    }
+}
+
+// A potential in fine measure, and beside it the flow up from its vertex: of edges that are violated equally, the one that can move the most is then the worst.
+fn height_of(potential: u32, supply: u64, demand: u64) -> u64
+    requires { ⌜ (potential < 2 ^ 24) × ((supply ≤ 2 ^ 32) × (demand ≤ 2 ^ 32)) ⌝ }
+    ensures { λ r. ⌜ r ≡ 2 ^ 36 * potential + (2 ^ 32 + supply - demand) ⌝ }
+{
+    UNIT * potential as u64 + (FLOW + supply - demand)
+}
+
+// The height of every vertex.
+fn heights(n: usize, supply: &[u64], demand: &[u64], potential: &[u32], out: &mut [u64])
+    requires { ⌜ CanRise n (now supply) (now demand) (now potential) (now out) ⌝ }
+    ensures { λ _.
+        ⌜ Filled n (heightOf (now (supply .entry)) (now (demand .entry)) (now (potential .entry))) (now (out .entry)) (now (out .exit)) ⌝ }
+{
+    let mut x = 0;
+    while x < n {
+        out[x] = height_of(potential[x], supply[x], demand[x]);
+        x += 1;
+    }
+}
+
+// How far apart two heights are.
+fn change(u: u64, w: u64) -> u64
     ensures { λ r. ⌜ r ≡ gap u w ⌝ }
 {
     if u < w { w - u } else { u - w }
 }
 
-// By how much the potential changes along edge e beyond its length, counted from LEVEL.
-fn excess_of(a: &[u32], b: &[u32], lengths: &[u32], potential: &[u32], e: usize) -> u64
-    requires { ⌜ CanEnter (now a) (now b) (now lengths) (now potential) × (e < length (now a)) ⌝ }
-    ensures { λ r. ⌜ r ≡ raised (now (a .entry)) (now (b .entry)) (now (lengths .entry)) (now (potential .entry)) e ⌝ }
+// By how much the height changes along edge e beyond its length, counted from LEVEL.
+fn excess_of(a: &[u32], b: &[u32], reach: &[u64], height: &[u64], e: usize) -> u64
+    requires { ⌜ CanScan (now a) (now b) (now reach) (now height) × (e < length (now a)) ⌝ }
+    ensures { λ r. ⌜ r ≡ raised (now (a .entry)) (now (b .entry)) (now (reach .entry)) (now (height .entry)) e ⌝ }
 {
     let x = a[e] as usize;
     let y = b[e] as usize;
-    LEVEL + change(potential[x], potential[y]) as u64 - lengths[e] as u64
+    reach[e] + change(height[x], height[y])
 }
 
-// The edge that the potential violates the most of those from `first` up to `end`, or the number of edges if it violates none of them.
-fn worst_between(
-    a: &[u32],
-    b: &[u32],
-    lengths: &[u32],
-    potential: &[u32],
-    first: usize,
-    end: usize,
-) -> usize
-    requires { ⌜ CanEnter (now a) (now b) (now lengths) (now potential) × ((first ≤ end) × (end ≤ length (now a))) ⌝ }
-    ensures { λ r. ⌜ Worst (now (a .entry)) (now (b .entry)) (now (lengths .entry)) (now (potential .entry)) first end r ⌝ }
+// The edge with the largest excess, or the number of edges if none has half a unit.
+fn worst_edge(a: &[u32], b: &[u32], reach: &[u64], height: &[u64]) -> usize
+    requires { ⌜ CanScan (now a) (now b) (now reach) (now height) ⌝ }
+    ensures { λ r. ⌜ Tallest (now (a .entry)) (now (b .entry)) (now (reach .entry)) (now (height .entry)) r ⌝ }
 {
     let mut best = a.len();
-    let mut worst = LEVEL;
-    let mut e = first;
-    while e < end {
-        let x = excess_of(a, b, lengths, potential, e);
+    let mut worst = LEVEL + HALF;
+    let mut e = 0;
+    while e < a.len() {
+        let x = excess_of(a, b, reach, height, e);
         if worst < x {
             best = e;
             worst = x;
@@ -54,43 +97,21 @@ fn worst_between(
     best
 }
 
-// Where the block that starts at `first` ends.
-fn block_end(first: usize, edges: usize) -> usize
-    requires { ⌜ first ≤ edges ⌝ }
-    ensures { λ r. ⌜ r ≡ min edges (first + 32) ⌝ }
+// The next edge to enter: the one that the potential violates the most, or the number of edges if it violates none.
+pub fn entering_edge(
+    n: usize,
+    a: &[u32],
+    b: &[u32],
+    reach: &[u64],
+    supply: &[u64],
+    demand: &[u64],
+    potential: &[u32],
+) -> usize
+    requires { ⌜ CanEnter n (now a) (now b) (now reach) (now supply) (now demand) (now potential) ⌝ }
+    ensures { λ r. ⌜ ((lengths : List ℕ) → Reaches (length (now (a .entry))) lengths (now (reach .entry))
+        → Entering (now (a .entry)) (now (b .entry)) lengths (now (potential .entry)) r) ⌝ }
 {
-    if edges - first < BLOCK {
-        edges
-    } else {
-        first + BLOCK
-    }
-}
-
-// The worst edge of the first block from `first` on that has one which the potential violates, or the number of edges.
-fn worst_from(a: &[u32], b: &[u32], lengths: &[u32], potential: &[u32], first: usize) -> usize
-    requires { ⌜ CanEnter (now a) (now b) (now lengths) (now potential) ⌝ }
-    ensures { λ r. ⌜ EnteringFrom (now (a .entry)) (now (b .entry)) (now (lengths .entry)) (now (potential .entry)) first r ⌝ }
-{
-    let mut start = first;
-    while start < a.len() {
-        let end = block_end(start, a.len());
-        let e = worst_between(a, b, lengths, potential, start, end);
-        if e < a.len() {
-            return e;
-        }
-        start = end;
-    }
-    a.len()
-}
-
-// The next edge to enter: the worst of the first block, going round from `from`, with one that the potential violates; the number of edges if it violates none.
-pub fn entering_edge(a: &[u32], b: &[u32], lengths: &[u32], potential: &[u32], from: usize) -> usize
-    requires { ⌜ CanEnter (now a) (now b) (now lengths) (now potential) ⌝ }
-    ensures { λ r. ⌜ Entering (now (a .entry)) (now (b .entry)) (now (lengths .entry)) (now (potential .entry)) r ⌝ }
-{
-    let e = worst_from(a, b, lengths, potential, from);
-    if e < a.len() {
-        return e;
-    }
-    worst_from(a, b, lengths, potential, 0)
+    let mut height = [0u64; 64];
+    heights(n, supply, demand, potential, &mut height);
+    worst_edge(a, b, reach, &height)
 }

@@ -115,7 +115,9 @@ fn search(
         (now (parents .entry)) (now (above .entry)) (now (supply .entry)) (now (demand .entry)) (now (masks .entry)) (now (potential .entry))
         (now (parents .exit)) (now (above .exit)) (now (supply .exit)) (now (demand .exit)) (now (masks .exit)) (now (potential .exit)) ⌝ }
 {
-    let mut e = entering::entering_edge(a, b, lengths, potential, 0);
+    let mut reach = [0u64; 512];
+    entering::reaches(lengths, &mut reach);
+    let mut e = entering::entering_edge(n, a, b, &reach, supply, demand, potential);
     while e < a.len() {
         improve(
             n,
@@ -130,7 +132,7 @@ fn search(
             masks,
             potential,
         );
-        e = entering::entering_edge(a, b, lengths, potential, e);
+        e = entering::entering_edge(n, a, b, &reach, supply, demand, potential);
     }
 }
 

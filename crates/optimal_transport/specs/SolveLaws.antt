@@ -24,6 +24,7 @@ use Rattle.graph.specs.Accepted.{Accepted, vertices-in, not-refused, accepted-r
 use Rattle.graph.specs.EdgeLaws.{edgeLength-most}
 use Rattle.graph.specs.FirstTree.{FirstTree, Checked}
 use Rattle.tree_checks.specs.Checks.{totalsOk, totalsEqual, measureRefusal}
+use Rattle.shortest_paths.specs.ShortestPathTree.{CanShorten}
 use Rattle.spanning_tree.specs.Weigh.{treeCost}
 use Rattle.transport_plan.specs.Plan.{moves}
 use Rattle.transport_plan.specs.PlanSteps.{Measures}
@@ -110,6 +111,32 @@ can-start can first t e = record {
   parents-size = t;
   edge-size = e;
 }
+
+module _ {g : Graph} {mu nu tree edge : List ℕ} (start : CanStart g mu nu tree edge) where
+  pub can-shorten : CanShorten g mu nu tree edge
+  can-shorten = record {
+    accepted = start .accepted;
+    tree = start .tree;
+    parents-size = start .parents-size;
+    edge-size = start .edge-size;
+    mu-size = start .mu-size;
+    nu-size = start .nu-size;
+    mu-light = λ y l. omega (arith, sum-ge (g .n) y (at mu) l, start .light);
+    nu-light = λ y l. omega (arith, sum-ge (g .n) y (at nu) l, start .light, start .same);
+  }
+
+  -- the search can start from another tree as well
+  pub start-from : {tree' edge' : List ℕ} → FirstTree g tree' edge' → length tree' ≡ 64 → length edge' ≡ 64 → CanStart g mu nu tree' edge'
+  start-from first t e = record {
+    accepted = start .accepted;
+    tree = first;
+    same = start .same;
+    light = start .light;
+    mu-size = start .mu-size;
+    nu-size = start .nu-size;
+    parents-size = t;
+    edge-size = e;
+  }
 
 -- k is the number of the checks; if it is 0, the tables hold a first spanning tree
 pub record SolveChecked (g : Graph) (mu nu : List ℕ) (answers : Bool) (k : ℕ) (tree edge : List ℕ) : Type 0 where

@@ -76,13 +76,14 @@ pub fn best_answer(
     mu: &[u64],
     nu: &[u64],
     tree: &mut [u32],
-    edge: &[u32],
+    edge: &mut [u32],
     u: &mut [u32],
 ) -> u64
     requires { ⌜ CanStart (graph n (now a) (now b) (now lengths)) (now mu) (now nu) (now tree) (now edge) × (length (now u) ≡ 64) ⌝ }
     ensures { λ r. ⌜ BestAnswer (graph n (now (a .entry)) (now (b .entry)) (now (lengths .entry))) (at (now (mu .entry))) (at (now (nu .entry)))
         (now (tree .exit)) (now (u .exit)) r ⌝ }
 {
+    shortest_paths::shortest_path_tree(n, a, b, lengths, mu, nu, tree, edge);
     network_simplex::search::best_tree(n, a, b, lengths, mu, nu, tree, edge, u);
     weight(n, u, mu) - weight(n, u, nu)
 }
@@ -140,5 +141,5 @@ pub fn least_cost(n: usize, a: &[u32], b: &[u32], lengths: &[u32], mu: &[u64], n
     let mut edge = [0u32; 64];
     let mut u = [0u32; 64];
     graph::check(n, a, b, lengths, true, &mut tree, &mut edge);
-    best_answer(n, a, b, lengths, mu, nu, &mut tree, &edge, &mut u)
+    best_answer(n, a, b, lengths, mu, nu, &mut tree, &mut edge, &mut u)
 }

@@ -49,7 +49,7 @@ pub fn solve(
             moves: 0,
         };
     }
-    let cost = answer::best_answer(n, a, b, lengths, mu, nu, &mut tree, &edge, &mut u);
+    let cost = answer::best_answer(n, a, b, lengths, mu, nu, &mut tree, &mut edge, &mut u);
     answer::write_parents(n, &tree, parents);
     answer::write_potential(n, &u, potential);
     let moves = evaluation::tree_plan(n, 0, parents, mu, nu, plan);

@@ -1,12 +1,9 @@
 //! Counts the pivots of the library's search, which it does not tell itself.
 //!
-//! This is the search of `crates/network_simplex`, written again. The caller compares the tree and the potential that it ends
+//! This is the search of `crates/network_simplex` from the tree of `crates/shortest_paths`, written again. The caller compares the tree and the potential that it ends
 //! with to those of the record: where they agree patch after patch, so do the pivots.
 
 use reference::{Edge, Problem};
-
-/// Edges that are looked at together, as in `entering_edge`.
-const BLOCK: usize = 32;
 
 /// A spanning tree with root 0 and what is kept of each vertex: the perturbed masses below it, the vertices below it as a word,
 /// the potential.
@@ -45,10 +42,54 @@ fn first_tree(problem: &Problem) -> (Vec<usize>, Vec<usize>) {
     (parents, edge)
 }
 
+/// Both ways along each edge: its number, its ends and what it weighs.
+fn ways(problem: &Problem) -> impl Iterator<Item = (usize, [(usize, usize); 2], u64)> + '_ {
+    let edges = problem.edges.iter().enumerate();
+    edges.map(|(e, edge)| {
+        let Edge { a, b, length } = *edge;
+        (e, [(a, b), (b, a)], 64 * u64::from(length) + 1)
+    })
+}
+
+/// The tree of shortest paths from vertex 0, by rounds of relaxing the edges; then, of the parents that serve equally well, one
+/// whose surplus is most opposed.
+fn shortest_path_tree(problem: &Problem) -> (Vec<usize>, Vec<usize>) {
+    let (mut parents, mut edge) = first_tree(problem);
+    let depth = |x: usize| {
+        std::iter::successors(Some(x), |&y| Some(parents[y]))
+            .take_while(|&y| y != 0)
+            .count()
+    };
+    let mut labels: Vec<u64> = (0..problem.n).map(|x| (depth(x) as u64) << 22).collect();
+    let mut changed = true;
+    while changed {
+        changed = false;
+        for (e, ends, weight) in ways(problem) {
+            for (x, y) in ends {
+                if labels[x] + weight < labels[y] {
+                    (labels[y], parents[y], edge[y]) = (labels[x] + weight, x, e);
+                    changed = true;
+                    break;
+                }
+            }
+        }
+    }
+    let surplus = |x: usize| problem.mu[x] as i64 - problem.nu[x] as i64;
+    let opposed = |x: usize, y: usize| if surplus(y) > 0 { -surplus(x) } else { surplus(x) };
+    for (e, ends, weight) in ways(problem) {
+        for (x, y) in ends {
+            if labels[x] + weight == labels[y] && opposed(parents[y], y) < opposed(x, y) {
+                (parents[y], edge[y]) = (x, e);
+            }
+        }
+    }
+    (parents, edge)
+}
+
 impl Basis {
     fn first(problem: &Problem) -> Basis {
         let n = problem.n;
-        let (parents, edge) = first_tree(problem);
+        let (parents, edge) = shortest_path_tree(problem);
         let (mut supply, mut demand, mut masks) = (vec![0; n], vec![0; n], vec![0; n]);
         for y in 0..n {
             let (grain, grains) = if y == 0 { (0, n as i64 - 1) } else { (1, 0) };
@@ -92,25 +133,28 @@ impl Basis {
         (self.potential[e.a] - self.potential[e.b]).abs() - e.length as i64
     }
 
-    fn entering_edge(&self, edges: &[Edge], from: usize) -> Option<usize> {
-        let blocks = |first: usize| {
-            (first..edges.len())
-                .step_by(BLOCK)
-                .map(|k| k..edges.len().min(k + BLOCK))
-        };
-        blocks(from).chain(blocks(0)).find_map(|block| {
-            // The first of the worst: `max_by_key` would give the last.
-            let worst = block.rev().max_by_key(|&e| self.excess(&edges[e]))?;
-            (self.excess(&edges[worst]) > 0).then_some(worst)
-        })
-    }
-
-    fn pivot(&mut self, edge: &Edge) {
-        let (s, t) = if self.potential[edge.b] < self.potential[edge.a] {
+    /// The ends of an edge, the one with the higher potential first.
+    fn falling(&self, edge: &Edge) -> (usize, usize) {
+        if self.potential[edge.b] < self.potential[edge.a] {
             (edge.a, edge.b)
         } else {
             (edge.b, edge.a)
+        }
+    }
+
+    /// The worst edge, if one is violated; of equally bad ones, the one with the largest flow from its higher end less that from its lower.
+    fn entering_edge(&self, edges: &[Edge]) -> Option<usize> {
+        let key = |e: usize| {
+            let (s, t) = self.falling(&edges[e]);
+            (self.excess(&edges[e]), self.flow(s) - self.flow(t))
         };
+        // The first of the worst: `max_by_key` would give the last.
+        let worst = (0..edges.len()).rev().max_by_key(|&e| key(e))?;
+        (self.excess(&edges[worst]) > 0).then_some(worst)
+    }
+
+    fn pivot(&mut self, edge: &Edge) {
+        let (s, t) = self.falling(edge);
         let mut join = s;
         while self.masks[join] >> t & 1 == 0 {
             join = self.parents[join];
@@ -156,10 +200,10 @@ impl Basis {
 
 pub fn search(problem: &Problem) -> Ended {
     let mut basis = Basis::first(problem);
-    let (mut pivots, mut from) = (0, 0);
-    while let Some(e) = basis.entering_edge(&problem.edges, from) {
+    let mut pivots = 0;
+    while let Some(e) = basis.entering_edge(&problem.edges) {
         basis.pivot(&problem.edges[e]);
-        (pivots, from) = (pivots + 1, e);
+        pivots += 1;
     }
     Ended {
         parents: basis.parents,

@@ -37,28 +37,28 @@ slice-aggregate-write-parents : tie.Need-slice-aggregate-write-parents
 slice-aggregate-write-parents c = search needs
 
 write-parents-requires : tie.Need-write-parents-requires
-write-parents-requires c κs = let s = c .before .before .before .before .before .before .before .before .before .before .before .before .before .before .before .before .before .before .before .before .before .before .args in
-    let r = room-for _ _ _ (s .parents .now) (s .potential .now) (s .plan .now) _ (c .before .before .before .before .before .before .before .before .before .before .before .before .before .before .has-room .ensures) (c .before .before .before .before .before .before .before .before .before .before .before .solve-refusal .ensures) (omega arith) in
-    let v = vertices ((c .before .before .before .before .before .before .before .before .before .before .before .solve-refusal .ensures) .start (omega arith)) in
+write-parents-requires c κs = let s = c .before .before .before .before .before .before .before .before .before .before .before .before .before .before .before .before .before .before .before .before .before .before .before .args in
+    let r = room-for _ _ _ (s .parents .now) (s .potential .now) (s .plan .now) _ (c .before .before .before .before .before .before .before .before .before .before .before .before .before .before .before .has-room .ensures) (c .before .before .before .before .before .before .before .before .before .before .before .before .solve-refusal .ensures) (omega arith) in
+    let v = vertices ((c .before .before .before .before .before .before .before .before .before .before .before .before .solve-refusal .ensures) .start (omega arith)) in
     (omega (arith, v), r .0)
 
 slice-aggregate-write-potential : tie.Need-slice-aggregate-write-potential
 slice-aggregate-write-potential c = search needs
 
 write-potential-requires : tie.Need-write-potential-requires
-write-potential-requires c κs = let s = c .before .before .before .before .before .before .before .before .before .before .before .before .before .before .before .before .before .before .before .before .before .before .before .before .before .before .before .args in
-    let r = room-for _ _ _ (s .parents .now) (s .potential .now) (s .plan .now) _ (c .before .before .before .before .before .before .before .before .before .before .before .before .before .before .before .before .before .before .before .has-room .ensures) (c .before .before .before .before .before .before .before .before .before .before .before .before .before .before .before .before .solve-refusal .ensures) (omega arith) in
-    let v = vertices ((c .before .before .before .before .before .before .before .before .before .before .before .before .before .before .before .before .solve-refusal .ensures) .start (omega arith)) in
-    ((omega (arith, v), r .1 .0), (c .before .before .before .before .before .before .before .before .before .best-answer .ensures) .best .small)
+write-potential-requires c κs = let s = c .before .before .before .before .before .before .before .before .before .before .before .before .before .before .before .before .before .before .before .before .before .before .before .before .before .before .before .before .args in
+    let r = room-for _ _ _ (s .parents .now) (s .potential .now) (s .plan .now) _ (c .before .before .before .before .before .before .before .before .before .before .before .before .before .before .before .before .before .before .before .before .has-room .ensures) (c .before .before .before .before .before .before .before .before .before .before .before .before .before .before .before .before .before .solve-refusal .ensures) (omega arith) in
+    let v = vertices ((c .before .before .before .before .before .before .before .before .before .before .before .before .before .before .before .before .before .solve-refusal .ensures) .start (omega arith)) in
+    ((omega (arith, v), r .1 .0), (c .before .before .before .before .before .before .before .before .before .before .best-answer .ensures) .best .small)
 
 tree-plan-requires : tie.Need-tree-plan-requires
-tree-plan-requires c κs = let checked = c .before .before .before .before .before .before .before .before .before .before .before .before .before .before .before .before .before .before .before .before .solve-refusal .ensures in
+tree-plan-requires c κs = let checked = c .before .before .before .before .before .before .before .before .before .before .before .before .before .before .before .before .before .before .before .before .before .solve-refusal .ensures in
     let start = checked .start (omega arith) in
-    let s = c .before .before .before .before .before .before .before .before .before .before .before .before .before .before .before .before .before .before .before .before .before .before .before .before .before .before .before .before .before .before .before .args in
-    let r = room-for _ _ _ (s .parents .now) (s .potential .now) (s .plan .now) _ (c .before .before .before .before .before .before .before .before .before .before .before .before .before .before .before .before .before .before .before .before .before .before .before .has-room .ensures) checked (omega arith) in (
+    let s = c .before .before .before .before .before .before .before .before .before .before .before .before .before .before .before .before .before .before .before .before .before .before .before .before .before .before .before .before .before .before .before .before .args in
+    let r = room-for _ _ _ (s .parents .now) (s .potential .now) (s .plan .now) _ (c .before .before .before .before .before .before .before .before .before .before .before .before .before .before .before .before .before .before .before .before .before .before .before .before .has-room .ensures) checked (omega arith) in (
       (vertices start .1, (omega (arith, r .0), r .1 .1)),
       (
-        tree-handed-out _ _ _ (s .parents .now) (s .potential .now) (s .plan .now) _ (c .before .before .before .before .before .before .before .before .before .before .before .before .before .before .before .before .before .before .before .before .before .before .before .has-room .ensures) checked (omega arith) (c .before .before .before .before .before .before .before .before .before .before .before .before .before .best-answer .ensures) (c .before .before .before .before .before .before .before .before .write-parents .ensures),
+        tree-handed-out _ _ _ (s .parents .now) (s .potential .now) (s .plan .now) _ (c .before .before .before .before .before .before .before .before .before .before .before .before .before .before .before .before .before .before .before .before .before .before .before .before .has-room .ensures) checked (omega arith) (c .before .before .before .before .before .before .before .before .before .before .before .before .before .before .best-answer .ensures) (c .before .before .before .before .before .before .before .before .write-parents .ensures),
         record {
           long-mu = omega (arith, start .mu-size);
           long-nu = omega (arith, start .nu-size);
@@ -78,7 +78,7 @@ same-length-3 : tie.Need-same-length-3
 same-length-3 c = search needs
 
 returns-2 : tie.Need-returns-2
-returns-2 c = solved _ _ _ _ _ _ _ (c .before .before .before .before .before .before .before .before .before .before .before .before .before .before .before .before .before .before .before .before .before .before .before .before .before .before .has-room .ensures) (c .before .before .before .before .before .before .before .before .before .before .before .before .before .before .before .before .before .before .before .before .before .before .before .solve-refusal .ensures) (omega arith) (c .before .before .before .before .before .before .before .before .before .before .before .before .before .before .before .before .best-answer .ensures) (c .before .before .before .before .before .before .before .before .before .before .before .write-parents .ensures) (c .before .before .before .before .before .before .write-potential .ensures) (c .before .before .tree-plan .ensures)
+returns-2 c = solved _ _ _ _ _ _ _ (c .before .before .before .before .before .before .before .before .before .before .before .before .before .before .before .before .before .before .before .before .before .before .before .before .before .before .before .has-room .ensures) (c .before .before .before .before .before .before .before .before .before .before .before .before .before .before .before .before .before .before .before .before .before .before .before .before .solve-refusal .ensures) (omega arith) (c .before .before .before .before .before .before .before .before .before .before .before .before .before .before .before .before .before .best-answer .ensures) (c .before .before .before .before .before .before .before .before .before .before .before .write-parents .ensures) (c .before .before .before .before .before .before .write-potential .ensures) (c .before .before .tree-plan .ensures)
 
 pub solve-spec : {M : Type 1} → statement M
 solve-spec =

@@ -1,20 +1,31 @@
+-- `entering_edge` meets its contract: the tallest edge by heights is the one that the potential violates the most. Assumes nothing.
+use borrow.Author.Needs.{needs}
 use native.Mathlib.Omega.{arith}
-use Rattle.network_simplex.specs.Entering.{from-all}
+use Rattle.network_simplex.specs.Entering.{can-scan, enters}
 use Rattle.network_simplex.proofs.entering.entering_edge.Statement.{statement}
 use Rattle.network_simplex.proofs.entering.entering_edge.Tie as tie
 
-worst-from-requires : tie.Need-worst-from-requires
-worst-from-requires c κs = c .before .before .before .before .pre
+slice-aggregate-heights : tie.Need-slice-aggregate-heights
+slice-aggregate-heights c = search needs
+
+heights-requires : tie.Need-heights-requires
+heights-requires c κs = search needs
+
+slice-aggregate-worst-edge : tie.Need-slice-aggregate-worst-edge
+slice-aggregate-worst-edge c = search needs
+
+worst-edge-requires : tie.Need-worst-edge-requires
+worst-edge-requires c κs = can-scan (c .before .before .before .before .before .before .before .before .before .before .pre) (c .before .before .heights .ensures) (omega (arith, c .before .before .before .before .before .before .before .before .before .before .pre .few))
 
 returns : tie.Need-returns
-returns c = c .before .worst-from .ensures .some (λ q. omega arith)
-
-worst-from-requires-2 : tie.Need-worst-from-requires-2
-worst-from-requires-2 c κs = c .before .before .before .before .before .before .pre
-
-returns-2 : tie.Need-returns-2
-returns-2 c = from-all _ _ _ _ _ (c .worst-from2 .ensures)
+returns c = λ lengths reaches. enters (c .before .before .before .before .before .before .before .before .before .before .before .pre) (c .before .before .before .heights .ensures) reaches (c .worst-edge .ensures)
 
 pub entering-edge-spec : {M : Type 1} → statement M
 entering-edge-spec =
-    tie.close (tie.spec worst-from-requires returns worst-from-requires-2 returns-2)
+    tie.close
+    (tie.spec
+    slice-aggregate-heights
+    heights-requires
+    slice-aggregate-worst-edge
+    worst-edge-requires
+    returns)

@@ -1,3 +1,4 @@
+-- `excess_of` meets its contract. Assumes nothing.
 use native.Mathlib.Omega.{arith}
 use Rattle.network_simplex.proofs.entering.excess_of.Statement.{statement}
 use Rattle.network_simplex.proofs.entering.excess_of.Tie as tie
@@ -20,38 +21,29 @@ shared-slice-read-y c = omega arith
 cast-y : tie.Need-cast-y
 cast-y c = omega (arith, c .shared-slice-known6 .given (c .before .before .before .before .before .before .args .e))
 
-mul-change : tie.Need-mul-change
-mul-change c = omega (arith, c .before .before .before .before .before .before .pre .0 .low-a (c .before .before .before .before .before .before .args .e) (c .before .before .before .before .before .before .pre .1))
-
-shared-slice-read-change : tie.Need-shared-slice-read-change
-shared-slice-read-change c = omega (arith, c .before .before .before .before .before .before .before .pre .0 .low-a (c .before .before .before .before .before .before .before .args .e) (c .before .before .before .before .before .before .before .pre .1))
-
-mul-change-2 : tie.Need-mul-change-2
-mul-change-2 c = omega (arith, c .before .before .before .before .before .before .before .pre .0 .low-b (c .before .before .before .before .before .before .before .args .e) (c .before .before .before .before .before .before .before .pre .1))
-
-shared-slice-read-change-2 : tie.Need-shared-slice-read-change-2
-shared-slice-read-change-2 c = omega (arith, c .before .before .before .before .before .before .before .before .pre .0 .low-b (c .before .before .before .before .before .before .before .before .args .e) (c .before .before .before .before .before .before .before .before .pre .1))
-
-change-requires : tie.Need-change-requires
-change-requires c κs = omega arith
-
-cast-result : tie.Need-cast-result
-cast-result c = omega arith
-
-add-result : tie.Need-add-result
-add-result c = omega arith
-
 mul-result : tie.Need-mul-result
 mul-result c = omega arith
 
 shared-slice-read-result : tie.Need-shared-slice-read-result
 shared-slice-read-result c = omega arith
 
-cast-result-2 : tie.Need-cast-result-2
-cast-result-2 c = omega (arith, c .shared-slice-known9 .given (c .before .before .before .before .before .before .before .before .before .before .args .e))
+mul-change : tie.Need-mul-change
+mul-change c = omega (arith, c .before .before .before .before .before .before .before .pre .0 .low-a (c .before .before .before .before .before .before .before .args .e) (c .before .before .before .before .before .before .before .pre .1))
 
-sub-result : tie.Need-sub-result
-sub-result c = omega (arith, c .shared-slice-known9 .given (c .before .before .before .before .before .before .before .before .before .before .args .e))
+shared-slice-read-change : tie.Need-shared-slice-read-change
+shared-slice-read-change c = omega (arith, c .before .before .before .before .before .before .before .before .pre .0 .low-a (c .before .before .before .before .before .before .before .before .args .e) (c .before .before .before .before .before .before .before .before .pre .1))
+
+mul-change-2 : tie.Need-mul-change-2
+mul-change-2 c = omega (arith, c .before .before .before .before .before .before .before .before .pre .0 .low-b (c .before .before .before .before .before .before .before .before .args .e) (c .before .before .before .before .before .before .before .before .pre .1))
+
+shared-slice-read-change-2 : tie.Need-shared-slice-read-change-2
+shared-slice-read-change-2 c = omega (arith, c .before .before .before .before .before .before .before .before .before .pre .0 .low-b (c .before .before .before .before .before .before .before .before .before .args .e) (c .before .before .before .before .before .before .before .before .before .pre .1))
+
+change-requires : tie.Need-change-requires
+change-requires c κs = omega arith
+
+add-result : tie.Need-add-result
+add-result c = let s = c .before .before .before .before .before .before .before .before .before .before in omega (arith, c .change .ensures, s .pre .0 .near (s .args .e) (s .pre .1), s .pre .0 .low-a (s .args .e) (s .pre .1), s .pre .0 .low-b (s .args .e) (s .pre .1))
 
 returns : tie.Need-returns
 returns c = omega arith
@@ -66,15 +58,12 @@ excess-of-spec =
     mul-y
     shared-slice-read-y
     cast-y
+    mul-result
+    shared-slice-read-result
     mul-change
     shared-slice-read-change
     mul-change-2
     shared-slice-read-change-2
     change-requires
-    cast-result
     add-result
-    mul-result
-    shared-slice-read-result
-    cast-result-2
-    sub-result
     returns)

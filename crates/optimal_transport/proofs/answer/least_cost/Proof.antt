@@ -32,7 +32,7 @@ best-answer-requires c κs = let s = c .before .before .before .before .before .
     (can-start s (k .first (k .number ∙ accepted-refusal _ true (s .accepted) refl 0)) (omega arith) (omega arith), omega arith)
 
 returns : tie.Need-returns
-returns c = least-cost (c .before .before .before .before .before .before .before .before .before .before .before .before .before .before .before .before .pre) (c .before .before .best-answer .ensures)
+returns c = least-cost (c .before .before .before .before .before .before .before .before .before .before .before .before .before .before .before .before .before .pre) (c .before .before .before .best-answer .ensures)
 
 pub least-cost-spec : {M : Type 1} → statement M
 least-cost-spec =

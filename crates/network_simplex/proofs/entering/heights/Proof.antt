@@ -1,0 +1,81 @@
+-- `heights` meets its contract. The loop's invariant: the first `x` places are filled. Assumes nothing.
+use Prim.Native.Nat.{_≤_, _-_}
+use mathlib.Core.Path.{_≡_}
+use native.Mathlib.Omega.{arith}
+use Rattle.tree_checks.specs.Walk.{Filled, filled-none, filled-more}
+use Rattle.network_simplex.specs.Entering.{heightOf}
+use Rattle.network_simplex.proofs.entering.heights.Statement.{statement}
+use Rattle.network_simplex.proofs.entering.heights.Tie as tie
+
+abbrev Inv-loop : tie.InvT-loop
+Inv-loop n supply demand potential out₀ x₀ out x = (x ≤ n) × Filled x (heightOf supply demand potential) out₀ out
+
+abbrev μ-loop : tie.MeasureT-loop
+μ-loop n supply demand potential out₀ x₀ out x = n - x
+
+loop-holds : tie.Need-loop-holds Inv-loop μ-loop
+loop-holds c = (omega arith, filled-none _ _)
+
+mul-height-of : tie.Need-mul-height-of Inv-loop μ-loop
+mul-height-of c = omega arith
+
+shared-slice-read-height-of : tie.Need-shared-slice-read-height-of Inv-loop μ-loop
+shared-slice-read-height-of c = omega arith
+
+mul-height-of-2 : tie.Need-mul-height-of-2 Inv-loop μ-loop
+mul-height-of-2 c = omega arith
+
+shared-slice-read-height-of-2 : tie.Need-shared-slice-read-height-of-2 Inv-loop μ-loop
+shared-slice-read-height-of-2 c = omega arith
+
+mul-height-of-3 : tie.Need-mul-height-of-3 Inv-loop μ-loop
+mul-height-of-3 c = omega arith
+
+shared-slice-read-height-of-3 : tie.Need-shared-slice-read-height-of-3 Inv-loop μ-loop
+shared-slice-read-height-of-3 c = omega arith
+
+height-of-requires : tie.Need-height-of-requires Inv-loop μ-loop
+height-of-requires c κs = let s = c .before .before .before .before .before .before .before .before .before in let l = c .before .before .before .loop-test .taken in (s .pre .small _ l, s .pre .light _ l)
+
+mul-out : tie.Need-mul-out Inv-loop μ-loop
+mul-out c = omega arith
+
+slice-write-out : tie.Need-slice-write-out Inv-loop μ-loop
+slice-write-out c = omega (arith, c .before .before .before .before .before .loop .inv .1 .size)
+
+add-x : tie.Need-add-x Inv-loop μ-loop
+add-x c = omega arith
+
+loop-less : tie.Need-loop-less Inv-loop μ-loop
+loop-less c = omega arith
+
+loop-again : tie.Need-loop-again Inv-loop μ-loop
+loop-again c = (omega arith, filled-more _ _ _ (c .before .before .before .before .before .loop .out) _ (omega arith) (c .before .before .before .before .before .loop .inv .1) (c .height-of .ensures))
+
+same-length : tie.Need-same-length Inv-loop μ-loop
+same-length c = c .before .loop .inv .1 .size
+
+returns : tie.Need-returns Inv-loop μ-loop
+returns c = let e : c .before .loop .x ≡ c .before .before .before .before .before .before .args .n = omega arith in rw e at (c .before .loop .inv .1)
+
+pub heights-spec : {M : Type 1} → statement M
+heights-spec =
+    tie.close
+    (tie.spec
+    Inv-loop
+    μ-loop
+    loop-holds
+    mul-height-of
+    shared-slice-read-height-of
+    mul-height-of-2
+    shared-slice-read-height-of-2
+    mul-height-of-3
+    shared-slice-read-height-of-3
+    height-of-requires
+    mul-out
+    slice-write-out
+    add-x
+    loop-less
+    loop-again
+    same-length
+    returns)

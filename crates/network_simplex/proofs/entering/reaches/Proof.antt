@@ -1,0 +1,66 @@
+-- `reaches` meets its contract. The loop's invariant: the first `e` places are filled. Assumes nothing.
+use Prim.Native.Nat.{_≤_, _-_}
+use mathlib.Core.Path.{_≡_}
+use native.Mathlib.Omega.{arith}
+use lib.ListN.{length}
+use Rattle.tree_checks.specs.Walk.{Filled, filled-none, filled-more}
+use Rattle.network_simplex.specs.Entering.{reachOf}
+use Rattle.network_simplex.proofs.entering.reaches.Statement.{statement}
+use Rattle.network_simplex.proofs.entering.reaches.Tie as tie
+
+abbrev Inv-loop : tie.InvT-loop
+Inv-loop lengths out₀ e₀ out e = (e ≤ length lengths) × Filled e (reachOf lengths) out₀ out
+
+abbrev μ-loop : tie.MeasureT-loop
+μ-loop lengths out₀ e₀ out e = length lengths - e
+
+loop-holds : tie.Need-loop-holds Inv-loop μ-loop
+loop-holds c = (omega arith, filled-none _ _)
+
+mul-reach-of : tie.Need-mul-reach-of Inv-loop μ-loop
+mul-reach-of c = omega arith
+
+shared-slice-read-reach-of : tie.Need-shared-slice-read-reach-of Inv-loop μ-loop
+shared-slice-read-reach-of c = omega arith
+
+reach-of-requires : tie.Need-reach-of-requires Inv-loop μ-loop
+reach-of-requires c κs = c .before .before .before .before .before .pre .short _ (c .before .loop-test .taken)
+
+mul-out : tie.Need-mul-out Inv-loop μ-loop
+mul-out c = omega arith
+
+slice-write-out : tie.Need-slice-write-out Inv-loop μ-loop
+slice-write-out c = omega (arith, c .before .before .before .loop .inv .1 .size)
+
+add-e : tie.Need-add-e Inv-loop μ-loop
+add-e c = omega arith
+
+loop-less : tie.Need-loop-less Inv-loop μ-loop
+loop-less c = omega arith
+
+loop-again : tie.Need-loop-again Inv-loop μ-loop
+loop-again c = (omega arith, filled-more _ _ _ (c .before .before .before .loop .out) _ (omega arith) (c .before .before .before .loop .inv .1) (c .reach-of .ensures))
+
+same-length : tie.Need-same-length Inv-loop μ-loop
+same-length c = c .before .loop .inv .1 .size
+
+returns : tie.Need-returns Inv-loop μ-loop
+returns c = let e : c .before .loop .e ≡ length (c .before .before .before .before .args .lengths .now) = omega arith in rw e at (c .before .loop .inv .1)
+
+pub reaches-spec : {M : Type 1} → statement M
+reaches-spec =
+    tie.close
+    (tie.spec
+    Inv-loop
+    μ-loop
+    loop-holds
+    mul-reach-of
+    shared-slice-read-reach-of
+    reach-of-requires
+    mul-out
+    slice-write-out
+    add-e
+    loop-less
+    loop-again
+    same-length
+    returns)

@@ -1,0 +1,4 @@
+pub mod Weight
+pub mod Labels
+pub mod Ties
+pub mod ShortestPathTree

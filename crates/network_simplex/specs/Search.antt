@@ -25,9 +25,9 @@ use Rattle.tree_pivot.specs.PivotPotential.{near-root}
 use Rattle.tree_pivot.specs.PivotBasis.{CanPivotBasis, Joins, CheaperBasis}
 use Rattle.network_simplex.specs.Perturbed.{supplyOf, demandOf, true-agrees}
 use Rattle.network_simplex.specs.FirstBasis.{CanStart, vertices, network-of}
-use Rattle.network_simplex.specs.Entering.{Reaches, CanReach, reachOf, reaches-of, CanEnter, Entering}
-use Rattle.network_simplex.specs.Join.{Join, CanJoin, can-join}
-use Rattle.network_simplex.specs.Leaving.{CanLeave, Leaves, masses-light, can-leave, leaving-s, leaving-t}
+use Rattle.pivot_rules.specs.Entering.{Reaches, CanReach, reachOf, reaches-of, CanEnter, Entering}
+use Rattle.pivot_rules.specs.Join.{Join, CanJoin, can-join}
+use Rattle.pivot_rules.specs.Leaving.{CanLeave, Leaves, masses-light, can-leave, leaving-s, leaving-t}
 
 -- ---- one step
 

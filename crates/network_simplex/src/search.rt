@@ -6,9 +6,9 @@ ghost use Rattle.arithmetic.specs.Table.{at};
 ghost use Rattle.graph.specs.Graph.{graph};
 ghost use Rattle.network_simplex.specs.FirstBasis.{CanStart};
 ghost use Rattle.network_simplex.specs.Search.{ExchangeInput, Exchanged, CanImprove, Improved, CanSearch, Optimized, BestTree};
-use crate::entering;
 use crate::first_basis;
-use crate::leaving;
+use pivot_rules::entering;
+use pivot_rules::leaving;
 
 // x where the test holds, else y.
 fn choose(test: bool, x: usize, y: usize) -> usize

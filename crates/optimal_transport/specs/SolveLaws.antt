@@ -119,10 +119,12 @@ module _ {g : Graph} {mu nu tree edge : List ℕ} (start : CanStart g mu nu tree
     tree = start .tree;
     parents-size = start .parents-size;
     edge-size = start .edge-size;
-    mu-size = start .mu-size;
-    nu-size = start .nu-size;
-    mu-light = λ y l. omega (arith, sum-ge (g .n) y (at mu) l, start .light);
-    nu-light = λ y l. omega (arith, sum-ge (g .n) y (at nu) l, start .light, start .same);
+    masses = record {
+      mu-size = start .mu-size;
+      nu-size = start .nu-size;
+      mu-light = λ y l. omega (arith, sum-ge (g .n) y (at mu) l, start .light);
+      nu-light = λ y l. omega (arith, sum-ge (g .n) y (at nu) l, start .light, start .same);
+    };
   }
 
   -- the search can start from another tree as well

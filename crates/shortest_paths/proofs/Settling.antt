@@ -14,7 +14,6 @@ use Rattle.graph.specs.Marks.{put}
 use Rattle.shortest_paths.specs.Weight.{weightOf}
 use Rattle.shortest_paths.specs.Labels.{Labelled}
 use Rattle.shortest_paths.specs.Ties.{Masses, moreOpposed, CanOppose, prefers, Settled, Keeps}
-use Rattle.shortest_paths.specs.ShortestPathTree.{CanShorten}
 use Rattle.shortest_paths.proofs.Labelling.{joins-up, joins-down, order, first-tree, rehung}
 
 -- ---- one store
@@ -31,9 +30,6 @@ module _ (x y e w : ℕ) (mu nu labels p s : List ℕ) where
       record { parents = rw (g, k); edges = rw (g, k) }
 
 -- ---- a labelled tree
-
-pub masses-of : {g : Graph} {mu nu p s : List ℕ} → CanShorten g mu nu p s → Masses (g .n) mu nu
-masses-of can = record { mu-size = can .mu-size; nu-size = can .nu-size; mu-light = can .mu-light; nu-light = can .nu-light }
 
 module _ {g : Graph} {p s labels : List ℕ} (m : Labelled g p s labels) where
   pub can-oppose : (mu nu : List ℕ) (x y : ℕ) → Masses (g .n) mu nu → x < g .n → y < g .n → CanOppose mu nu x (at p y) y

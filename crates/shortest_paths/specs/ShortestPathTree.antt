@@ -1,5 +1,5 @@
 -- The tree of shortest paths from vertex 0.
-use Prim.Native.Nat.{ℕ, _+_, _^_, _≤_, _<_}
+use Prim.Native.Nat.{ℕ, _+_, _<_}
 use mathlib.Core.Path.{_≡_}
 use mathlib.Core.List.{List}
 use lib.ListN.{length}
@@ -8,6 +8,7 @@ use Rattle.graph.specs.Graph.{Graph, edges}
 use Rattle.graph.specs.Accepted.{Accepted}
 use Rattle.graph.specs.FirstTree.{FirstTree}
 use Rattle.shortest_paths.specs.Weight.{weightOf, Within}
+use Rattle.shortest_paths.specs.Ties.{Masses}
 
 -- a graph that passed the checks, with a spanning tree in tables of 64 places, and two measures
 pub record CanShorten (g : Graph) (mu nu parents edge : List ℕ) : Type 0 where
@@ -15,10 +16,7 @@ pub record CanShorten (g : Graph) (mu nu parents edge : List ℕ) : Type 0 where
   pub tree : FirstTree g parents edge
   pub parents-size : length parents ≡ 64
   pub edge-size : length edge ≡ 64
-  pub mu-size : length mu ≡ g .n
-  pub nu-size : length nu ≡ g .n
-  pub mu-light : (y : ℕ) → y < g .n → at mu y ≤ 2 ^ 24
-  pub nu-light : (y : ℕ) → y < g .n → at nu y ≤ 2 ^ 24
+  pub masses : Masses (g .n) mu nu
 
 -- a spanning tree whose paths from vertex 0 are the lightest of all: the weights of its paths are labels that keep to Bellman's equations
 pub record ShortestPathTree (g : Graph) (p s : List ℕ) : Type 0 where

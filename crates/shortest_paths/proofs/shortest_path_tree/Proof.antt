@@ -7,7 +7,6 @@ use Rattle.arithmetic.specs.Table.{at}
 use Rattle.graph.specs.Graph.{graph}
 use Rattle.shortest_paths.specs.Labels.{Labelled}
 use Rattle.shortest_paths.proofs.Labelling.{few, rooted, first-labelled, less-left, shortest}
-use Rattle.shortest_paths.proofs.Settling.{masses-of}
 use Rattle.shortest_paths.proofs.shortest_path_tree.Statement.{statement}
 use Rattle.shortest_paths.proofs.shortest_path_tree.Tie as tie
 
@@ -42,7 +41,7 @@ slice-aggregate-settle-ties : tie.Need-slice-aggregate-settle-ties Inv-loop μ-l
 slice-aggregate-settle-ties c = omega arith
 
 settle-ties-requires : tie.Need-settle-ties-requires Inv-loop μ-loop
-settle-ties-requires c κs = (c .before .before .before .before .before .before .before .before .before .before .before .before .before .before .before .before .before .before .before .before .before .before .before .before .before .args .n, (c .before .before .before .before .before .before .before .before .before .relax-round .ensures _ (c .before .before .before .before .before .before .before .before .before .before .before .before .before .loop .inv .1 .1 .1) .labelled, masses-of (c .before .before .before .before .before .before .before .before .before .before .before .before .before .before .before .before .before .before .before .before .before .before .before .before .before .pre)))
+settle-ties-requires c κs = (c .before .before .before .before .before .before .before .before .before .before .before .before .before .before .before .before .before .before .before .before .before .before .before .before .before .args .n, (c .before .before .before .before .before .before .before .before .before .relax-round .ensures _ (c .before .before .before .before .before .before .before .before .before .before .before .before .before .loop .inv .1 .1 .1) .labelled, c .before .before .before .before .before .before .before .before .before .before .before .before .before .before .before .before .before .before .before .before .before .before .before .before .before .pre .masses))
 
 same-length : tie.Need-same-length Inv-loop μ-loop
 same-length c = omega arith

@@ -4,7 +4,7 @@ use mathlib.Core.Path.{sym, _∙_}
 use Rattle.arithmetic.specs.Table.{at}
 use Rattle.graph.specs.Graph.{graph}
 use Rattle.spanning_tree.specs.WeighLaws.{costFrom}
-use Rattle.network_simplex.specs.Entering.{Entering}
+use Rattle.pivot_rules.specs.Entering.{Entering}
 use Rattle.network_simplex.specs.Search.{Kept, search-basis, search-reach, search-reaches, search-enters, search-improves, search-keeps, search-less, search-ends}
 use Rattle.network_simplex.proofs.search.search.Statement.{statement}
 use Rattle.network_simplex.proofs.search.search.Tie as tie

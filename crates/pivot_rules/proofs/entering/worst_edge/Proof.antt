@@ -3,9 +3,9 @@ use Prim.Native.Nat.{_≤_, _-_}
 use mathlib.Core.Logic.{⊎-elim}
 use native.Mathlib.Omega.{arith}
 use lib.ListN.{length}
-use Rattle.network_simplex.specs.Entering.{TallestTo, tallest-none, tallest-more, tallest-keep, tallest-end}
-use Rattle.network_simplex.proofs.entering.worst_edge.Statement.{statement}
-use Rattle.network_simplex.proofs.entering.worst_edge.Tie as tie
+use Rattle.pivot_rules.specs.Entering.{TallestTo, tallest-none, tallest-more, tallest-keep, tallest-end}
+use Rattle.pivot_rules.proofs.entering.worst_edge.Statement.{statement}
+use Rattle.pivot_rules.proofs.entering.worst_edge.Tie as tie
 
 abbrev Inv-loop : tie.InvT-loop
 Inv-loop a b reach height best₀ worst₀ e₀ best worst e = (e ≤ length a) × TallestTo a b reach height e best worst

@@ -1,7 +1,7 @@
 -- `excess_of` meets its contract. Assumes nothing.
 use native.Mathlib.Omega.{arith}
-use Rattle.network_simplex.proofs.entering.excess_of.Statement.{statement}
-use Rattle.network_simplex.proofs.entering.excess_of.Tie as tie
+use Rattle.pivot_rules.proofs.entering.excess_of.Statement.{statement}
+use Rattle.pivot_rules.proofs.entering.excess_of.Tie as tie
 
 mul-x : tie.Need-mul-x
 mul-x c = omega arith

@@ -3,9 +3,9 @@ use mathlib.Core.Path.{sym, _∙_}
 use borrow.Author.Tests.{not-true, not-false}
 use Rattle.arithmetic.specs.Table.{at}
 use Rattle.rooted_tree.specs.Chain.{depth}
-use Rattle.network_simplex.specs.Join.{JoinFrom, join-none, join-more, join-less, join-end}
-use Rattle.network_simplex.proofs.leaving.join_vertex.Statement.{statement}
-use Rattle.network_simplex.proofs.leaving.join_vertex.Tie as tie
+use Rattle.pivot_rules.specs.Join.{JoinFrom, join-none, join-more, join-less, join-end}
+use Rattle.pivot_rules.proofs.leaving.join_vertex.Statement.{statement}
+use Rattle.pivot_rules.proofs.leaving.join_vertex.Tie as tie
 
 abbrev Inv-loop : tie.InvT-loop
 Inv-loop n parents masks s t x₀ x = JoinFrom n (at parents) s t x

@@ -4,9 +4,9 @@ use mathlib.Core.Path.{_≡_}
 use native.Mathlib.Omega.{arith}
 use lib.ListN.{length}
 use Rattle.tree_checks.specs.Walk.{Filled, filled-none, filled-more}
-use Rattle.network_simplex.specs.Entering.{reachOf}
-use Rattle.network_simplex.proofs.entering.reaches.Statement.{statement}
-use Rattle.network_simplex.proofs.entering.reaches.Tie as tie
+use Rattle.pivot_rules.specs.Entering.{reachOf}
+use Rattle.pivot_rules.proofs.entering.reaches.Statement.{statement}
+use Rattle.pivot_rules.proofs.entering.reaches.Tie as tie
 
 abbrev Inv-loop : tie.InvT-loop
 Inv-loop lengths out₀ e₀ out e = (e ≤ length lengths) × Filled e (reachOf lengths) out₀ out

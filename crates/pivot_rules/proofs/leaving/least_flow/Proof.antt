@@ -2,9 +2,9 @@ use mathlib.Core.Logic.{⊎-elim}
 use native.Mathlib.Omega.{arith}
 use Rattle.arithmetic.specs.Table.{at}
 use Rattle.rooted_tree.specs.Chain.{depth}
-use Rattle.network_simplex.specs.Leaving.{WalkTo, walk-none, walk-less, walk-more, walk-keep, walk-end}
-use Rattle.network_simplex.proofs.leaving.least_flow.Statement.{statement}
-use Rattle.network_simplex.proofs.leaving.least_flow.Tie as tie
+use Rattle.pivot_rules.specs.Leaving.{WalkTo, walk-none, walk-less, walk-more, walk-keep, walk-end}
+use Rattle.pivot_rules.proofs.leaving.least_flow.Statement.{statement}
+use Rattle.pivot_rules.proofs.leaving.least_flow.Tie as tie
 
 abbrev Inv-loop : tie.InvT-loop
 Inv-loop n parents from to more less vertex₀ flow₀ x₀ vertex flow x = WalkTo n (at parents) (at more) (at less) from to x vertex flow

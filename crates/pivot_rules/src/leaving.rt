@@ -4,8 +4,8 @@ ghost use Prim.Native.Nat.{_<_};
 ghost use lib.ListN.{length};
 ghost use Rattle.arithmetic.specs.Table.{at};
 ghost use Rattle.arithmetic.specs.Mask.{bit};
-ghost use Rattle.network_simplex.specs.Join.{Join, CanJoin};
-ghost use Rattle.network_simplex.specs.Leaving.{FlowUp, CanWalk, LeastFlow, CanLeave, Leaves};
+ghost use Rattle.pivot_rules.specs.Join.{Join, CanJoin};
+ghost use Rattle.pivot_rules.specs.Leaving.{FlowUp, CanWalk, LeastFlow, CanLeave, Leaves};
 
 // Whether y is in the subtree with the given mask.
 fn in_subtree(mask: u64, y: usize) -> bool

@@ -1,9 +1,9 @@
 -- `entering_edge` meets its contract: the tallest edge by heights is the one that the potential violates the most. Assumes nothing.
 use borrow.Author.Needs.{needs}
 use native.Mathlib.Omega.{arith}
-use Rattle.network_simplex.specs.Entering.{can-scan, enters}
-use Rattle.network_simplex.proofs.entering.entering_edge.Statement.{statement}
-use Rattle.network_simplex.proofs.entering.entering_edge.Tie as tie
+use Rattle.pivot_rules.specs.Entering.{can-scan, enters}
+use Rattle.pivot_rules.proofs.entering.entering_edge.Statement.{statement}
+use Rattle.pivot_rules.proofs.entering.entering_edge.Tie as tie
 
 slice-aggregate-heights : tie.Need-slice-aggregate-heights
 slice-aggregate-heights c = search needs

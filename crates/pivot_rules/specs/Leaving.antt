@@ -16,8 +16,8 @@ use Rattle.rooted_tree.specs.Subtotal.{subtotal}
 use Rattle.graph.specs.Graph.{Graph}
 use Rattle.tree_pivot.specs.PivotCost.{Candidate, Leaving}
 use Rattle.tree_pivot.specs.Basis.{Network, Basis}
-use Rattle.network_simplex.specs.Join.{Join}
-use Rattle.network_simplex.specs.Candidates.{candidate-exists}
+use Rattle.pivot_rules.specs.Join.{Join}
+use Rattle.pivot_rules.specs.Candidates.{candidate-exists}
 
 -- more than any flow
 abbrev pub noFlow : ℕ

@@ -1,8 +1,8 @@
 use native.Mathlib.Omega.{arith}
 use lib.Bits.{and-mask}
 use Prim.Native.Nat.{_/_, _^_}
-use Rattle.network_simplex.proofs.leaving.in_subtree.Statement.{statement}
-use Rattle.network_simplex.proofs.leaving.in_subtree.Tie as tie
+use Rattle.pivot_rules.proofs.leaving.in_subtree.Statement.{statement}
+use Rattle.pivot_rules.proofs.leaving.in_subtree.Tie as tie
 
 shr-result : tie.Need-shr-result
 shr-result c = omega arith

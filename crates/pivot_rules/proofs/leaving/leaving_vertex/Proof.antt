@@ -1,7 +1,7 @@
 use native.Mathlib.Omega.{arith}
-use Rattle.network_simplex.specs.Leaving.{leaves-s, leaves-t}
-use Rattle.network_simplex.proofs.leaving.leaving_vertex.Statement.{statement}
-use Rattle.network_simplex.proofs.leaving.leaving_vertex.Tie as tie
+use Rattle.pivot_rules.specs.Leaving.{leaves-s, leaves-t}
+use Rattle.pivot_rules.proofs.leaving.leaving_vertex.Statement.{statement}
+use Rattle.pivot_rules.proofs.leaving.leaving_vertex.Tie as tie
 
 least-flow-requires : tie.Need-least-flow-requires
 least-flow-requires c κs = record { parents-size = omega arith; more-size = omega arith; less-size = omega arith; tree = c .before .before .before .pre .tree; low = c .before .before .before .pre .s-low; on = c .before .before .before .pre .join-is .above-s }

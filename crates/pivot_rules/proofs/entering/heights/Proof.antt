@@ -3,9 +3,9 @@ use Prim.Native.Nat.{_≤_, _-_}
 use mathlib.Core.Path.{_≡_}
 use native.Mathlib.Omega.{arith}
 use Rattle.tree_checks.specs.Walk.{Filled, filled-none, filled-more}
-use Rattle.network_simplex.specs.Entering.{heightOf}
-use Rattle.network_simplex.proofs.entering.heights.Statement.{statement}
-use Rattle.network_simplex.proofs.entering.heights.Tie as tie
+use Rattle.pivot_rules.specs.Entering.{heightOf}
+use Rattle.pivot_rules.proofs.entering.heights.Statement.{statement}
+use Rattle.pivot_rules.proofs.entering.heights.Tie as tie
 
 abbrev Inv-loop : tie.InvT-loop
 Inv-loop n supply demand potential out₀ x₀ out x = (x ≤ n) × Filled x (heightOf supply demand potential) out₀ out

@@ -6,7 +6,7 @@ ghost use lib.ListN.{length};
 ghost use Rattle.arithmetic.specs.Product.{gap};
 ghost use Rattle.arithmetic.specs.Table.{at};
 ghost use Rattle.tree_checks.specs.Walk.{Filled};
-ghost use Rattle.network_simplex.specs.Entering.{heightOf, reachOf, raised, Reaches, CanReach, CanRise, CanScan, Tallest, CanEnter, Entering};
+ghost use Rattle.pivot_rules.specs.Entering.{heightOf, reachOf, raised, Reaches, CanReach, CanRise, CanScan, Tallest, CanEnter, Entering};
 
 // A potential of 1, in the fine measure of heights.
 const UNIT: u64 = 1 << 36;

@@ -1,0 +1,4 @@
+pub mod Entering
+pub mod Join
+pub mod Candidates
+pub mod Leaving

@@ -40,7 +40,8 @@ pub fn reaches(lengths: &[u32], out: &mut [u64])
     }
 }
 
-// A potential in fine measure, and beside it the flow up from its vertex: of edges that are violated equally, the one that can move the most is then the worst.
+// A potential in fine measure, and beside it the flow up from its vertex: of edges that are violated equally, the one with the most flow up from its higher end,
+// less that from its lower end, is then the worst.
 fn height_of(potential: u32, supply: u64, demand: u64) -> u64
     requires { ⌜ (potential < 2 ^ 24) × ((supply ≤ 2 ^ 32) × (demand ≤ 2 ^ 32)) ⌝ }
     ensures { λ r. ⌜ r ≡ 2 ^ 36 * potential + (2 ^ 32 + supply - demand) ⌝ }

@@ -1,11 +1,11 @@
 -- Lent tables: a list as a function, a function as a list, and what a call leaves in a table.
 use mathlib.Core.Path.{_≡_, refl, sym, ap, _∙_}
-use mathlib.Core.List.{List, [], _∷_, _++_, append-assoc}
+use mathlib.Core.List.{List, [], _∷_, _++_, append-assoc, append-nil}
 use Prim.Native.Nat.{ℕ, zero, suc, _+_, _-_, _*_, _≤_, _<_}
 use native.Mathlib.Nat.{mul-le-mul-right}
 use native.Mathlib.Numerals.{add-one}
 use native.Mathlib.Omega.{arith}
-use lib.ListN.{length, getD, drop, set, length-append, length-drop, List·getD-append}
+use lib.ListN.{length, getD, drop, set, length-append, length-drop, List·getD-append, drop-of-length-le}
 use lib.Seq.{drop-cons, set-at, drop-at, getD-at, getD-append-add}
 use Rattle.arithmetic.specs.Bools.{case≡}
 
@@ -56,6 +56,16 @@ pub tab-more : {A : Type 0} (i : ℕ) (f : ℕ → A) (d : List A) → i < lengt
     → set (tab i f ++ drop i d) i (f i) ≡ tab (i + 1) f ++ drop (i + 1) d
 unfolding tab
 tab-more i f d h = rw (add-one, drop-cons d i (f i) h, set-at (tab i f) _ _ (f i) i (length-tab i f), append-assoc)
+
+-- the rest of a table that already has f's values completes it
+pub tab-rest : (f : ℕ → ℕ) (d : List ℕ) (i j : ℕ) → i + j ≡ length d → ((x : ℕ) → i ≤ x → x < i + j → at d x ≡ f x)
+    → tab i f ++ drop i d ≡ tab (i + j) f
+unfolding tab
+tab-rest f d i zero h e =
+    let n : i + 0 ≡ i = omega arith in rw (n, drop-of-length-le d {i = i} (omega arith), append-nil)
+tab-rest f d i (suc j) h e =
+    let n : i + suc j ≡ suc i + j = omega arith in
+    rw (n, drop-cons d i 0 (omega arith), e i (omega arith) (omega arith), ← tab-rest f d (suc i) j (omega arith) (λ x l k. e x (omega arith) (omega arith)), append-assoc)
 
 -- one store of a loop that fills a table from the front
 pub tab-store : {A : Type 0} (i : ℕ) (f : ℕ → A) (d out : List A) (x : A) → i < length d → out ≡ tab i f ++ drop i d → x ≡ f i

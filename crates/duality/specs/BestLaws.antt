@@ -12,7 +12,7 @@ use Rattle.arithmetic.specs.Product.{gap}
 use Rattle.arithmetic.specs.Table.{at}
 use Rattle.arithmetic.specs.Integer.{sumℤ, sumℤ-ext, plus, minus, as-sub, sub-cong, sub-inj, sub-same, sub-zero, sub-sub, abs-sub, weigh}
 use Rattle.rooted_tree.specs.Rooted.{Rooted}
-use Rattle.rooted_tree.specs.Flow.{tree-weak}
+use Rattle.rooted_tree.specs.Flow.{flowCost, tree-weak}
 use Rattle.graph.specs.Graph.{Graph, edges, joined, edgeLength}
 use Rattle.graph.specs.SpanningTree.{SpanningTree}
 use Rattle.graph.specs.Distance.{distance}
@@ -21,8 +21,8 @@ use Rattle.graph.specs.EdgeLaws.{edge-order, joins-ends, joined-edge, joined-sy
 use Rattle.graph.specs.PathLaws.{path-edge, distance-below}
 use Rattle.graph.specs.DistanceLaws.{distance-self, distance-triangle, distance-step}
 use Rattle.tree_checks.specs.TreeTests.{spanning-rooted}
-use Rattle.spanning_tree.specs.Weigh.{difference, toParent, treeCost}
-use Rattle.spanning_tree.specs.WeighLaws.{treeCost-flow}
+use Rattle.tree_evaluation.specs.Weigh.{difference, toParent, treeCost}
+use Rattle.tree_evaluation.specs.TreeCost.{treeCost-flow}
 use Rattle.transport_plan.specs.Plan.{plan}
 use Rattle.transport_plan.specs.PlanLaws.{plan-rows, plan-columns}
 use Rattle.transport_plan.specs.PlanCost.{Within, plan-cost}
@@ -43,6 +43,17 @@ pub record Certificate (g : Graph) (mu nu p U : ℕ → ℕ) : Type 0 where
   pub spanning : SpanningTree g 0 p
   pub within : (e : ℕ) → e < edges g → gap (U (at (g .lower) e)) (U (at (g .upper) e)) ≤ at (g .lengths) e
   pub weighs : sum (g .n) (λ y. U y * mu y) ≡ sum (g .n) (λ y. U y * nu y) + treeCost g 0 p mu nu
+
+-- the same with the cost of the tree's flow
+pub certificate-of-flow : (g : Graph) (mu nu p U : ℕ → ℕ) → SpanningTree g 0 p
+    → ((e : ℕ) → e < edges g → gap (U (at (g .lower) e)) (U (at (g .upper) e)) ≤ at (g .lengths) e)
+    → sum (g .n) (λ y. U y * mu y) ≡ sum (g .n) (λ y. U y * nu y) + flowCost (g .n) 0 p (λ x. edgeLength g x (p x)) mu nu
+    → Certificate g mu nu p U
+certificate-of-flow g mu nu p U t within weighs = record {
+  spanning = t;
+  within = within;
+  weighs = weighs ∙ ap (λ (c : ℕ). sum (g .n) (λ y. U y * nu y) + c) (sym (treeCost-flow g 0 p mu nu));
+}
 
 module _ (g : Graph) (acc : Accepted g) (mu nu p U : ℕ → ℕ) (same : sum (g .n) mu ≡ sum (g .n) nu) (cert : Certificate g mu nu p U) where
   near : (x y : ℕ) → joined g x y ≡ true → U x ≤ U y + edgeLength g x y
@@ -133,29 +144,43 @@ module _ (n : ℕ) (u : ℕ → ℤ) where
       let h : plus (u y) + sum n (λ x. minus (u x)) ≡ raised n u y + minus (u y) = omega (arith, sum-ge n y (λ x. minus (u x)) l) in
       as-sub (u y) ∙ sub-cong _ _ _ _ h
 
+pub record IntegerCertificate (g : Graph) (mu nu p : ℕ → ℕ) (u : ℕ → ℤ) : Type 0 where
+  pub spanning : SpanningTree g 0 p
+  pub zero-at-0 : u 0 ≡ pos 0
+  pub within : (e : ℕ) → e < edges g → natAbs (u (at (g .lower) e) -ℤ u (at (g .upper) e)) ≤ at (g .lengths) e
+  pub weighs : sumℤ (g .n) (λ y. u y *ℤ difference mu nu y) ≡ pos (treeCost g 0 p mu nu)
+
 module _ (g : Graph) (acc : Accepted g) (mu nu p : ℕ → ℕ) (u : ℕ → ℤ) (same : sum (g .n) mu ≡ sum (g .n) nu) where
-  pub certified-best : SpanningTree g 0 p → u 0 ≡ pos 0
-      → ((e : ℕ) → e < edges g → natAbs (u (at (g .lower) e) -ℤ u (at (g .upper) e)) ≤ at (g .lengths) e)
-      → sumℤ (g .n) (λ y. u y *ℤ difference mu nu y) ≡ pos (treeCost g 0 p mu nu)
+  pub certified-best : IntegerCertificate g mu nu p u
       → Best g mu nu p (plan (g .n) 0 p mu nu) u (treeCost g 0 p mu nu)
   unfolding raised
-  certified-best t zero-0 within weighs =
+  certified-best c =
       certificate-best g acc mu nu p (raised (g .n) u) same cert u (λ y l. raised-is (g .n) u y l ∙ ap (λ (k : ℕ). subℕ (raised (g .n) u y) k) (sym ground))
     where
       K : ℕ
       K = sum (g .n) (λ x. minus (u x))
 
       ground : raised (g .n) u 0 ≡ K
-      ground = rw zero-0 (omega arith)
+      ground = rw (c .zero-at-0) (omega arith)
 
       cert : Certificate g mu nu p (raised (g .n) u)
       cert = record {
-        spanning = t;
-        within = λ e l. rw (change-is g acc (raised (g .n) u) K u (raised-is (g .n) u) e l) at (within e l);
+        spanning = c .spanning;
+        within = λ e l. rw (change-is g acc (raised (g .n) u) K u (raised-is (g .n) u) e l) at (c .within e l);
         weighs =
             let h = sub-inj (sum (g .n) (λ y. raised (g .n) u y * mu y)) (sum (g .n) (λ y. raised (g .n) u y * nu y)) (treeCost g 0 p mu nu) 0
             (sym (weigh (g .n) K (raised (g .n) u) mu nu same)
             ∙ sym (sumℤ-ext (g .n) _ _ (λ y l. ap (λ (z : ℤ). z *ℤ difference mu nu y) (raised-is (g .n) u y l)))
-            ∙ weighs ∙ sym (sub-zero (treeCost g 0 p mu nu))) in
+            ∙ c .weighs ∙ sym (sub-zero (treeCost g 0 p mu nu))) in
             omega arith;
       }
+
+-- what demand 3 says of the tree and the potential (nothing cites this): they certify each other
+pub best-certified : {g : Graph} {mu nu p : ℕ → ℕ} {t : ℕ → ℕ → ℕ} {u : ℕ → ℤ} {cost : ℕ} → Best g mu nu p t u cost
+    → IntegerCertificate g mu nu p u
+best-certified b = record {
+  spanning = b .spanning;
+  zero-at-0 = b .zero-at-0;
+  within = b .within;
+  weighs = b .weighs ∙ ap pos (sym (b .tree-cost));
+}

@@ -308,8 +308,8 @@ module _ (g : Graph) (l : List ℕ) (room : g .n * g .n ≤ length l) where
       most = λ i j hi hj. omega (arith, fills-at (g .n) (via g k) l m (r .table) i j hi hj, via-far g ok short k i j);
     }
 
-    pub via-zero : k < g .n → cell (g .n) m k k ≡ 0
-    via-zero hk = fills-at (g .n) (via g k) l m (r .table) k k hk hk ∙ via-self g k k
+    pub via-zero : (x : ℕ) → x < g .n → cell (g .n) m x x ≡ 0
+    via-zero x h = fills-at (g .n) (via g k) l m (r .table) x x h h ∙ via-self g k x
 
     pub via-more : (o : List ℕ) → k < g .n → o ≡ filled (g .n) (shorter (cell (g .n) m) k) m → Fills (g .n) (via g (k + 1)) l o
     unfolding via

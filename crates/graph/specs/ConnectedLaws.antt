@@ -42,7 +42,7 @@ module _ (g : Graph) where
   unfolding reached
   reached-suc k v h = tab-at (g .n) _ false v h
 
-  reached-more : (k v : ℕ) → Reached k v → Reached (suc k) v
+  pub reached-more : (k v : ℕ) → Reached k v → Reached (suc k) v
   reached-more k v h = reached-suc k v (reached-in k v h) ∙ or-true-l _ _ h
 
   reached-first : (k : ℕ) → 0 < g .n → Reached k 0

@@ -12,5 +12,6 @@ pub mod DistanceLaws
 pub mod FloydWarshall
 pub mod FirstTree
 pub mod TreeOfRank
+pub mod Spanned
 pub mod Marks
 pub mod Records

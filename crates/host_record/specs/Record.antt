@@ -18,8 +18,8 @@ signed (pos x) = x
 signed (negsuc x) = 2 ^ 32 - 1 - x
 
 -- "cost (8 bytes), moves (4), root and n parents (n + 1), potential from byte 13 + n (4 each, signed), plan from byte 13 + 5n to the end"
-unfoldable pub record-bytes : ℕ → ℕ → ℕ → ℕ → (ℕ → ℕ) → (ℕ → ℤ) → (ℕ → ℕ) → List ℕ
-record-bytes n cost moves root parent potential entry =
+unfoldable pub recordBytes : ℕ → ℕ → ℕ → ℕ → (ℕ → ℕ) → (ℕ → ℤ) → (ℕ → ℕ) → List ℕ
+recordBytes n cost moves root parent potential entry =
     tab 8 (byteOf cost) ++ (tab 4 (byteOf moves) ++ (tab 1 (byteOf root) ++ (fields 1 n parent
     ++ (fields 4 n (λ y. signed (potential y)) ++ fields 4 (n * n) entry))))
 

@@ -10,7 +10,7 @@ use lib.Seq.{sets-eq}
 use lib.IntN.{ℤ}
 use borrow.Rule.Slice.PartMut.{midOf, putMid}
 use Rattle.arithmetic.specs.Table.{tab, rows, length-tab, length-rows, rows-ext, written}
-use Rattle.host_record.specs.Record.{byteOf, fields, signed, record-bytes, recordSize}
+use Rattle.host_record.specs.Record.{byteOf, fields, signed, recordBytes, recordSize}
 use Rattle.host_record.specs.Placed.{placed, placed-none, placed-front, placed-then, placed-part}
 
 -- ---- a number's bytes
@@ -88,8 +88,8 @@ module _ (n cost moves root : ℕ) (parent : ℕ → ℕ) (u : ℕ → ℤ) (ent
       → y₂ ≡ written 0 (fields 4 n (λ y. signed (u y))) (midOf (13 + n) (length m₁ - (13 + n)) m₁)
       → m₂ ≡ putMid (13 + n) (length m₁ - (13 + n)) m₁ y₂
       → y₃ ≡ written 0 (fields 4 (n * n) entry) (midOf (13 + 5 * n) (length m₂ - (13 + 5 * n)) m₂)
-      → putMid (13 + 5 * n) (length m₂ - (13 + 5 * n)) m₂ y₃ ≡ written 0 (record-bytes n cost moves root parent u entry) l
-  unfolding record-bytes
+      → putMid (13 + 5 * n) (length m₂ - (13 + 5 * n)) m₂ y₃ ≡ written 0 (recordBytes n cost moves root parent u entry) l
+  unfolding recordBytes
   sections m m₁ m₂ y₁ y₂ y₃ e f₁ e₁ f₂ e₂ f₃ =
       let p = length-rows 1 n (λ i. byteOf (parent i)) in
       let q = length-rows 4 n (λ i. byteOf (signed (u i))) in
@@ -102,14 +102,21 @@ module _ (n cost moves root : ℕ) (parent : ℕ → ℕ) (u : ℕ → ℤ) (ent
       (e₁ ∙ placed-part 13 head (fields 1 n parent) l m y₁ long-head (omega arith) e f₁) f₂) f₃
       ∙ placed-front _ l ∙ simp append-assoc
 
--- ---- the record by its entries
+-- ---- the record's length, and the record by its entries
+
+-- "It has 4n² + 5n + 13 bytes"
+pub length-record : (n cost moves root : ℕ) (parent : ℕ → ℕ) (u : ℕ → ℤ) (entry : ℕ → ℕ)
+    → length (recordBytes n cost moves root parent u entry) ≡ recordSize n
+unfolding recordBytes
+length-record n cost moves root parent u entry =
+    simp (length-append, length-tab, length-rows) (omega arith)
 
 fields-ext : (k m : ℕ) (f g : ℕ → ℕ) → ((i : ℕ) → i < m → f i ≡ g i) → fields k m f ≡ fields k m g
 fields-ext k m f g h = rows-ext k m (λ i. byteOf (f i)) (λ i. byteOf (g i)) (λ i j l _. ap (λ (x : ℕ). byteOf x j) (h i l))
 
 pub record-ext : (n cost moves root : ℕ) (p q : ℕ → ℕ) (u v : ℕ → ℤ) (e f : ℕ → ℕ) → ((y : ℕ) → y < n → p y ≡ q y)
     → ((y : ℕ) → y < n → u y ≡ v y) → ((c : ℕ) → c < n * n → e c ≡ f c)
-    → record-bytes n cost moves root p u e ≡ record-bytes n cost moves root q v f
-unfolding record-bytes
+    → recordBytes n cost moves root p u e ≡ recordBytes n cost moves root q v f
+unfolding recordBytes
 record-ext n cost moves root p q u v e f hp hu he =
     rw (fields-ext 1 n p q hp, fields-ext 4 n (λ y. signed (u y)) (λ y. signed (v y)) (λ y l. ap signed (hu y l)), fields-ext 4 (n * n) e f he)

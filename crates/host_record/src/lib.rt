@@ -5,8 +5,9 @@ ghost use Prim.Native.Nat.{_+_, _*_, _≤_, _<_};
 ghost use lib.ListN.{length, getD};
 ghost use lib.IntN.{pos};
 ghost use Rattle.arithmetic.specs.Table.{at, tab, written};
-ghost use Rattle.host_record.specs.Record.{byteOf, fields, signed, record-bytes, recordSize};
+ghost use Rattle.host_record.specs.Record.{byteOf, fields, signed, recordBytes, recordSize};
 ghost use Rattle.host_record.specs.Placed.{placed};
+use spanning_tree::tree::Tree;
 
 // The 32 bits of z.
 fn bits_of(z: i32) -> u32
@@ -95,25 +96,25 @@ fn write_plan(m: usize, plan: &[u32], out: &mut [u8])
     }
 }
 
-// The whole record.
+// The whole record, of an accepted tree.
 pub fn write_record(
-    n: usize,
     cost: u64,
     moves: u32,
-    root: u32,
-    parents: &[u32],
+    tree: Tree,
     potential: &[i32],
     plan: &[u32],
     out: &mut [u8],
 )
-    requires { ⌜ (n ≤ 64) × (n ≤ length (now parents)) × (n ≤ length (now potential)) × (n * n ≤ length (now plan))
-        × (recordSize n ≤ length (now out)) ⌝ }
+    requires { ⌜ (tree .n ≤ 64) × (tree .root < tree .n) × (tree .n ≤ length (now potential)) × (tree .n * tree .n ≤ length (now plan))
+        × (recordSize (tree .n) ≤ length (now out)) ⌝ }
     ensures { λ _. ⌜ now (out .exit) ≡ written 0
-        (record-bytes n cost moves root (at (now (parents .entry))) (λ y. getD (now (potential .entry)) y (pos 0))
+        (recordBytes (tree .n) cost moves (tree .root) (at (tree .parents)) (λ y. getD (now (potential .entry)) y (pos 0))
         (at (now (plan .entry)))) (now (out .entry)) ⌝ }
 {
-    write_figures(cost, moves, root, out);
-    write_parents(n, parents, &mut out[13..]);
+    let n = tree.n;
+    let parents = tree.parents;
+    write_figures(cost, moves, tree.root as u32, out);
+    write_parents(n, &parents, &mut out[13..]);
     let second = 13 + n;
     write_potential(n, potential, &mut out[second..]);
     let third = 13 + 5 * n;

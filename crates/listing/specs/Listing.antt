@@ -1,16 +1,14 @@
 -- Document 01, "listing": what the program prints, byte for byte.
 use Prim.Native.Nat.{ℕ, zero, suc, _+_, _/_, _%_}
 use mathlib.Core.Path.{_≡_}
-use mathlib.Core.Bool.{true, false, cond}
+use mathlib.Core.Bool.{true, cond}
 use mathlib.Core.List.{List, [], _∷_, _++_}
-use lib.Dec.{ltb}
-use lib.IntN.{ℤ}
+use lib.Dec.{eqb, ltb}
 use lib.ListN.{length}
 use Rattle.arithmetic.specs.Table.{written}
 use Rattle.transport_plan.specs.Plan.{moves}
-use Rattle.duality.specs.Best.{Best}
-use Rattle.image.specs.Image.{hasTree, vertexCount, amountBefore, amountAfter, rootOf, parentOf}
-use Rattle.weight_mover.specs.Run.{graphOf, imagePlan, weighedCost, answerRefusal}
+use Rattle.image.specs.Image.{hasTree, vertexCount, rootOf, parentOf}
+use Rattle.weight_mover.specs.Run.{answerRefusal, imagePlan, weighedCost, imageBestCost}
 
 -- x in base ten, of at most k digits, without leading zeros
 unfoldable pub digits : ℕ → ℕ → List ℕ
@@ -57,24 +55,17 @@ weighedListing s =
     line costWord (weighedCost s) ++ (line movesWord (moves (vertexCount s) (imagePlan s (rootOf s) (parentOf s)))
     ++ planLines (imagePlan s (rootOf s) (parentOf s)) (vertexCount s) (vertexCount s))
 
--- "Without one it prints `best` and the cost": a cost that demand 3 certifies
-pub record BestListing (s text : List ℕ) : Type 0 where
-  pub cost : ℕ
-  pub parents : ℕ → ℕ
-  pub u : ℕ → ℤ
-  pub best : Best (graphOf s) (amountBefore s) (amountAfter s) parents (imagePlan s 0 parents) u cost
-  pub text-is : text ≡ line bestWord cost
+-- "Without one it prints `best` and the cost"
+abbrev pub bestListing : List ℕ → List ℕ
+bestListing s = line bestWord (imageBestCost s)
 
--- the text that is printed for the image s
-pub record Listing (s text : List ℕ) : Type 0 where
-  -- "A refusal prints `refused` and the number"
-  pub refused : (answerRefusal s true ≡ 0 → ⊥) → text ≡ line refusedWord (answerRefusal s true)
-  pub weighed : answerRefusal s true ≡ 0 → hasTree s ≡ true → text ≡ weighedListing s
-  pub solved : answerRefusal s true ≡ 0 → hasTree s ≡ false → BestListing s text
+-- what is printed for the image s; "A refusal prints `refused` and the number"
+unfoldable pub listing : List ℕ → List ℕ
+listing s =
+    cond (eqb (answerRefusal s true) 0) (cond (hasTree s) (weighedListing s) (bestListing s))
+    (line refusedWord (answerRefusal s true))
 
--- a listing of the image s, written into a lent buffer
+-- the listing of the image s was written into a lent buffer
 pub record Listed (s buffer : List ℕ) (size : ℕ) (buffer' : List ℕ) : Type 0 where
-  pub text : List ℕ
-  pub listing : Listing s text
-  pub buffer-is : buffer' ≡ written 0 text buffer
-  pub size-is : size ≡ length text
+  pub buffer-is : buffer' ≡ written 0 (listing s) buffer
+  pub size-is : size ≡ length (listing s)

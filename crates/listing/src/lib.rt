@@ -102,7 +102,7 @@ fn write_rows(n: usize, plan: &[u32], from: usize, out: &mut [u8]) -> usize
 }
 
 // The listing of a weighed tree.
-pub fn write_weighed(n: usize, cost: u64, moves: u32, plan: &[u32], out: &mut [u8]) -> usize
+fn write_weighed(n: usize, cost: u64, moves: u64, plan: &[u32], out: &mut [u8]) -> usize
     requires { ⌜ (n ≤ 64) × (n * n ≤ length (now plan)) × (131072 ≤ length (now out)) ⌝ }
     ensures text { λ r. ⌜ now (out .exit) ≡ written 0
         (line costWord cost ++ (line movesWord moves ++ planLines (cell n (now (plan .entry))) n n)) (now (out .entry)) ⌝ }
@@ -110,13 +110,13 @@ pub fn write_weighed(n: usize, cost: u64, moves: u32, plan: &[u32], out: &mut [u
         ≡ length (line costWord cost ++ (line movesWord moves ++ planLines (cell n (now (plan .entry))) n n)) ⌝ }
 {
     let first = write_line(b"cost", cost, 0, out);
-    let second = write_line(b"moves", moves as u64, first, out);
+    let second = write_line(b"moves", moves, first, out);
     write_rows(n, plan, second, out)
 }
 
 // The listing of the best answer.
-pub fn write_best(cost: u64, out: &mut [u8]) -> usize
-    requires { ⌜ 26 ≤ length (now out) ⌝ }
+fn write_best(cost: u64, out: &mut [u8]) -> usize
+    requires { ⌜ 131072 ≤ length (now out) ⌝ }
     ensures text { λ r. ⌜ now (out .exit) ≡ written 0 (line bestWord cost) (now (out .entry)) ⌝ }
     ensures size { λ r. ⌜ r ≡ length (line bestWord cost) ⌝ }
 {
@@ -124,8 +124,8 @@ pub fn write_best(cost: u64, out: &mut [u8]) -> usize
 }
 
 // The listing of refusal k.
-pub fn write_refused(k: u32, out: &mut [u8]) -> usize
-    requires { ⌜ 29 ≤ length (now out) ⌝ }
+fn write_refused(k: u32, out: &mut [u8]) -> usize
+    requires { ⌜ 131072 ≤ length (now out) ⌝ }
     ensures text { λ r. ⌜ now (out .exit) ≡ written 0 (line refusedWord k) (now (out .entry)) ⌝ }
     ensures size { λ r. ⌜ r ≡ length (line refusedWord k) ⌝ }
 {
@@ -133,20 +133,20 @@ pub fn write_refused(k: u32, out: &mut [u8]) -> usize
 }
 
 // Writes the text that is printed for an image, and returns how long it is.
-pub fn write_listing(image: &[u8], out: &mut [u8]) -> usize
-    requires { ⌜ 131072 ≤ length (now out) ⌝ }
+pub fn write_listing(image: &[u8], out: &mut [u8; 131072]) -> usize
     ensures { λ r. ⌜ Listed (now (image .entry)) (now (out .entry)) r (now (out .exit)) ⌝ }
 {
-    let mut parents = [0u32; 64];
     let mut potential = [0i32; 64];
     let mut plan = [0u32; 4096];
     // room for the record of 64 vertices
-    let found = answer_image(image, 16717, &mut parents, &mut potential, &mut plan);
+    let found = answer_image(image, 16717, &mut potential, &mut plan);
     if found.refusal != 0 {
         return write_refused(found.refusal, out);
     }
-    if found.tree == 0 {
-        return write_best(found.cost, out);
+    let cost = found.cost;
+    let moves = found.moves as u64;
+    if found.given == 0 {
+        return write_best(cost, out);
     }
-    write_weighed(found.n, found.cost, found.moves, &plan, out)
+    write_weighed(found.tree.n, cost, moves, &plan, out)
 }

@@ -17,7 +17,7 @@ use Rattle.graph.specs.Accepted.{Accepted, vertices-in, lists-in}
 use Rattle.graph.specs.EdgeLaws.{edge-length, joined-sym, edgeLength-sym, edgeLength-most}
 use Rattle.graph.specs.FirstTree.{FirstTree}
 use Rattle.tree_checks.specs.TreeTests.{spanning-rooted}
-use Rattle.tree_checks.specs.Walk.{Filled}
+use Rattle.tree_walks.specs.Walk.{Filled}
 use Rattle.tree_pivot.specs.Basis.{Network, Basis}
 use Rattle.network_simplex.specs.Perturbed.{supplyOf, demandOf, supply-total, demand-total, unbalanced}
 use Rattle.network_simplex.specs.TreePotential.{TreePotential, HasPotential, balances-of}
@@ -60,13 +60,14 @@ pub record CanPerturb (n : ℕ) (mass out : List ℕ) : Type 0 where
   pub out-size : n ≤ length out
   pub small : (y : ℕ) → y < n → at mass y ≤ 2 ^ 24
 
-pub record CanWeigh (n : ℕ) (parents mu nu supply demand : List ℕ) : Type 0 where
+pub record CanWeigh (n : ℕ) (parents mu nu supply demand masks : List ℕ) : Type 0 where
   pub few : n ≤ 64
   pub parents-size : n ≤ length parents
   pub mu-size : n ≤ length mu
   pub nu-size : n ≤ length nu
   pub supply-size : n ≤ length supply
   pub demand-size : n ≤ length demand
+  pub masks-size : n ≤ length masks
   pub tree : Rooted n 0 (at parents)
   pub mu-light : sum n (at mu) ≤ 2 ^ 24
   pub nu-light : sum n (at nu) ≤ 2 ^ 24
@@ -81,7 +82,7 @@ can-perturb {n} {mass} some few mass-size out-size light = record {
   small = λ y l. omega (arith, sum-ge n y (at mass) l);
 }
 
-module _ {n : ℕ} {parents mu nu supply demand : List ℕ} (can : CanWeigh n parents mu nu supply demand) where
+module _ {n : ℕ} {parents mu nu supply demand masks : List ℕ} (can : CanWeigh n parents mu nu supply demand masks) where
   pub supply-fits : {old masses : List ℕ} → Filled n (supplyOf (at mu)) old masses → sum n (at masses) < 2 ^ 64
   supply-fits w =
       omega (arith, sum-ext n _ _ (w .each), supply-total n (omega (arith, can .tree .root)) (at mu), can .mu-light, can .few)
@@ -151,14 +152,16 @@ module _ {g : Graph} {mu nu parents edge : List ℕ} (can : CanStart g mu nu par
     number = λ x l d. omega (arith, can .tree .number x l d, lists-in g (can .accepted .lists));
   }
 
-  pub can-weigh : {supply demand : List ℕ} → length supply ≡ 64 → length demand ≡ 64 → CanWeigh (g .n) parents mu nu supply demand
-  can-weigh s d = record {
+  pub can-weigh : {supply demand masks : List ℕ} → length supply ≡ 64 → length demand ≡ 64 → length masks ≡ 64
+      → CanWeigh (g .n) parents mu nu supply demand masks
+  can-weigh s d m = record {
     few = vertices .1;
     parents-size = omega (arith, vertices, can .parents-size);
     mu-size = omega (arith, can .mu-size);
     nu-size = omega (arith, can .nu-size);
     supply-size = omega (arith, vertices);
     demand-size = omega (arith, vertices);
+    masks-size = omega (arith, vertices);
     tree = rooted;
     mu-light = can .light;
     nu-light = omega (arith, can .light, can .same);
@@ -183,28 +186,28 @@ module _ {g : Graph} {mu nu parents edge : List ℕ} (can : CanStart g mu nu par
     }
 
     module _ {supply₀ demand₀ masks₀ potential₀ supply demand masks potential : List ℕ} (places : Places old supply₀ demand₀ masks₀ potential₀)
-        (weighed : Filled (g .n) (subtotal (at parents) (g .n) (supplyOf (at mu))) supply₀ supply
-        × Filled (g .n) (subtotal (at parents) (g .n) (demandOf (g .n) (at nu))) demand₀ demand)
-        (masked : Filled (g .n) (λ x. mask (g .n) (λ y. below (at parents) (g .n) y x)) masks₀ masks)
+        (tables : Filled (g .n) (subtotal (at parents) (g .n) (supplyOf (at mu))) supply₀ supply
+        × (Filled (g .n) (subtotal (at parents) (g .n) (demandOf (g .n) (at nu))) demand₀ demand
+        × Filled (g .n) (λ x. mask (g .n) (λ y. below (at parents) (g .n) y x)) masks₀ masks))
         (size : length potential ≡ length potential₀)
         (raised : TreePotential (g .n) parents above supply demand potential) where
       pub first-basis : Basis g (supplyOf (at mu)) (demandOf (g .n) (at nu)) parents above supply demand masks potential
       first-basis = record {
         parents-size = can .parents-size;
         above-size = measured .size ∙ places .above-size;
-        supply-size = weighed .0 .size ∙ places .supply-size;
-        demand-size = weighed .1 .size ∙ places .demand-size;
-        masks-size = masked .size ∙ places .masks-size;
+        supply-size = tables .0 .size ∙ places .supply-size;
+        demand-size = tables .1 .0 .size ∙ places .demand-size;
+        masks-size = tables .1 .1 .size ∙ places .masks-size;
         potential-size = size ∙ places .potential-size;
         tree = rooted;
         edge = can .tree .tree .edge;
         above-is = above-is;
-        supply-is = weighed .0 .each;
-        demand-is = weighed .1 .each;
-        mask-is = masked .each;
+        supply-is = tables .0 .each;
+        demand-is = tables .1 .0 .each;
+        mask-is = tables .1 .1 .each;
         balances =
             balances-of network-of
             (omega (arith, supply-total (g .n) (vertices .0) (at mu), demand-total (g .n) (vertices .0) (at nu), can .same))
-            rooted above-is (weighed .0 .each) (weighed .1 .each) raised;
+            rooted above-is (tables .0 .each) (tables .1 .0 .each) raised;
         grounded = raised .grounded;
       }

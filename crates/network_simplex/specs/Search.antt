@@ -12,14 +12,16 @@ use Rattle.arithmetic.specs.Sum.{sum, sum-ext}
 use Rattle.arithmetic.specs.Product.{gap}
 use Rattle.arithmetic.specs.Table.{at}
 use Rattle.rooted_tree.specs.Rooted.{depth-lt}
+use Rattle.rooted_tree.specs.Subtotal.{inner}
 use Rattle.rooted_tree.specs.Flow.{flowCost, tree-strong, agrees-near}
 use Rattle.graph.specs.Graph.{Graph, edges, joined, edgeLength}
 use Rattle.graph.specs.Accepted.{Accepted, lists-in}
+use Rattle.graph.specs.SpanningTree.{SpanningTree}
 use Rattle.graph.specs.EdgeLaws.{edge-up, edge-down, edge-order, edge-joined, edge-size, edge-most}
-use Rattle.tree_checks.specs.Walk.{Filled}
-use Rattle.spanning_tree.specs.Weigh.{toParent}
-use Rattle.spanning_tree.specs.WeighLaws.{costFrom, treeCost-flow}
-use Rattle.duality.specs.BestLaws.{Certificate}
+use Rattle.tree_walks.specs.Walk.{Filled}
+use Rattle.spanning_tree.specs.TreeValue.{parentsHeld, held-at}
+use Rattle.duality.specs.Agree.{certificate-same}
+use Rattle.duality.specs.BestLaws.{Certificate, certificate-of-flow}
 use Rattle.tree_pivot.specs.Basis.{Network, Basis, offset}
 use Rattle.tree_pivot.specs.PivotPotential.{near-root}
 use Rattle.tree_pivot.specs.PivotBasis.{CanPivotBasis, Joins, CheaperBasis}
@@ -202,8 +204,11 @@ Kept g parents above supply demand masks potential parents' above' supply' deman
     (m v : ℕ → ℕ) → Network g m v → Basis g m v parents above supply demand masks potential → Basis g m v parents' above' supply' demand' masks' potential'
 
 -- the cost, from the tables
+abbrev pub basisCost : ℕ → (above supply demand : List ℕ) → ℕ
+basisCost n above supply demand = sum n (λ x. inner 0 x (at above x * gap (at supply x) (at demand x)))
+
 basis-cost : {g : Graph} {m v : ℕ → ℕ} {parents above supply demand masks potential : List ℕ} → Basis g m v parents above supply demand masks potential
-    → costFrom (g .n) 0 (at above) (at supply) (at demand) ≡ flowCost (g .n) 0 (at parents) (λ x. edgeLength g x (at parents x)) m v
+    → basisCost (g .n) above supply demand ≡ flowCost (g .n) 0 (at parents) (λ x. edgeLength g x (at parents x)) m v
 unfolding flowCost
 basis-cost {g} basis =
     sum-ext (g .n) _ _ (λ x l. case≡ x 0
@@ -275,7 +280,7 @@ module _ {g : Graph} {parents₀ above₀ supply₀ demand₀ masks₀ potential
     pub search-keeps : Kept g parents₀ above₀ supply₀ demand₀ masks₀ potential₀ parents' above' supply' demand' masks' potential'
     search-keeps m v net b = better m v net (kept m v net b) .basis
 
-    pub search-less : costFrom (g .n) 0 (at above') (at supply') (at demand') < costFrom (g .n) 0 (at above) (at supply) (at demand)
+    pub search-less : basisCost (g .n) above' supply' demand' < basisCost (g .n) above supply demand
     search-less =
         let c = better (can .m) (can .v) (can .network) search-basis in
         omega (arith, basis-cost search-basis, basis-cost (c .basis), c .cheaper)
@@ -289,39 +294,45 @@ module _ {g : Graph} {parents₀ above₀ supply₀ demand₀ masks₀ potential
 
 -- ---- the certificate
 
--- a best tree with root 0 and its potential, in tables of 64 places
-pub record BestTree (g : Graph) (mu nu : ℕ → ℕ) (parents potential : List ℕ) : Type 0 where
-  pub parents-size : length parents ≡ 64
-  pub potential-size : length potential ≡ 64
+-- a best tree with root 0 by value, and in tables of 64 places the lengths above its vertices and its potential
+pub record BestTree (g : Graph) (mu nu : ℕ → ℕ) (n r : ℕ) (parents above potential : List ℕ) : Type 0 where
+  pub vertices-are : n ≡ g .n
+  pub root-is : r ≡ 0
   pub certificate : Certificate g mu nu (at parents) (at potential)
-  pub into : (x : ℕ) → x < g .n → at parents x < g .n
-  pub grounded : at potential 0 ≡ offset
+  pub above-size : length above ≡ 64
+  pub above-is : (x : ℕ) → x < g .n → (x ≡ 0 → ⊥) → at above x ≡ edgeLength g x (at parents x)
+  pub potential-size : length potential ≡ 64
   pub small : (x : ℕ) → x < g .n → at potential x < 2 ^ 24
 
 module _ {g : Graph} {mu nu parents₀ edge : List ℕ} (can : CanStart g mu nu parents₀ edge)
     {parents above supply demand masks potential : List ℕ}
     (best : Optimal g (supplyOf (at mu)) (demandOf (g .n) (at nu)) parents above supply demand masks potential) where
-  certificate-of : Certificate g (at mu) (at nu) (at parents) (at potential)
-  certificate-of = record {
-    spanning = record {
-      root = best .basis .tree .root;
-      stay = best .basis .tree .stay;
-      edge = best .basis .edge;
-      chain = λ x l. (g .n, best .basis .tree .up x l);
-    };
-    within = best .within;
-    weighs =
-        tree-strong (best .basis .tree) (at potential) (toParent g (at parents)) (at mu) (at nu) (can .same)
-        (λ x l d. true-agrees (best .basis .tree) (vertices can .1) x l d (at mu) (at nu) _ _ _ (best .basis .balances .agrees x l d))
-        ∙ ap (λ (c : ℕ). sum (g .n) (λ y. at potential y * at nu y) + c) (sym (treeCost-flow g 0 (at parents) (at mu) (at nu)));
+  spanning : SpanningTree g 0 (at parents)
+  spanning = record {
+    root = best .basis .tree .root;
+    stay = best .basis .tree .stay;
+    edge = best .basis .edge;
+    chain = λ x l. (g .n, best .basis .tree .up x l);
   }
 
-  pub best-tree : BestTree g (at mu) (at nu) parents potential
-  best-tree = record {
-    parents-size = best .basis .parents-size;
-    potential-size = best .basis .potential-size;
-    certificate = certificate-of;
-    into = best .basis .tree .into;
-    grounded = best .basis .grounded;
-    small = potential-small (network-of can) (best .basis);
-  }
+  certificate-of : Certificate g (at mu) (at nu) (at parents) (at potential)
+  certificate-of =
+      certificate-of-flow g (at mu) (at nu) (at parents) (at potential) spanning (best .within)
+      (tree-strong (best .basis .tree) (at potential) (λ x. edgeLength g x (at parents x)) (at mu) (at nu) (can .same)
+      (λ x l d. true-agrees (best .basis .tree) (vertices can .1) x l d (at mu) (at nu) _ _ _ (best .basis .balances .agrees x l d)))
+
+  -- what is handed out is the tree by value
+  pub best-tree : {n r : ℕ} {held : List ℕ} → (n ≡ g .n) × ((r ≡ 0) × (held ≡ parentsHeld (g .n) parents))
+      → BestTree g (at mu) (at nu) n r held above potential
+  best-tree {n} {r} {held} e =
+      let same : (x : ℕ) → x < g .n → at parents x ≡ at held x
+      = λ x l. rw (e .1 .1) (sym (held-at (g .n) parents (vertices can .1) x l)) in
+      record {
+        vertices-are = e .0;
+        root-is = e .1 .0;
+        certificate = certificate-same g same (best .basis .tree .into) certificate-of;
+        above-size = best .basis .above-size;
+        above-is = λ x l d. best .basis .above-is x l d ∙ ap (edgeLength g x) (same x l);
+        potential-size = best .basis .potential-size;
+        small = potential-small (network-of can) (best .basis);
+      }

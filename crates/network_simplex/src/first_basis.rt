@@ -6,15 +6,16 @@ ghost use Prim.Native.Nat.{ℕ, _+_, _-_, _*_, _^_, _≤_, _<_};
 ghost use lib.Dec.{eqb};
 ghost use Rattle.arithmetic.specs.Sum.{pick};
 ghost use Rattle.arithmetic.specs.Table.{at};
+ghost use Rattle.arithmetic.specs.Mask.{mask};
+ghost use Rattle.rooted_tree.specs.Chain.{below};
 ghost use Rattle.rooted_tree.specs.Subtotal.{subtotal};
 ghost use Rattle.graph.specs.Graph.{graph};
-ghost use Rattle.tree_checks.specs.Walk.{Filled};
+ghost use Rattle.tree_walks.specs.Walk.{Filled};
 ghost use Rattle.tree_pivot.specs.Basis.{Basis};
 ghost use Rattle.network_simplex.specs.Perturbed.{supplyOf, demandOf};
 ghost use Rattle.network_simplex.specs.FirstBasis.{CanMeasure, LengthsAbove, CanPerturb, CanWeigh, Places, CanStart, StartInput};
 use crate::potential;
-use spanning_tree::weigh;
-use tree_checks::walk;
+use tree_walks::sums;
 
 // The length of the edge above each vertex.
 fn lengths_above(n: usize, lengths: &[u32], edge: &[u32], out: &mut [u32])
@@ -72,25 +73,37 @@ fn perturbed_demand(n: usize, nu: &[u64], out: &mut [u64])
     }
 }
 
-// The perturbed masses below each vertex.
-fn masses_below(
+// The perturbed masses below each vertex, and the masks of the subtrees.
+fn tables_below(
     n: usize,
     parents: &[u32],
     mu: &[u64],
     nu: &[u64],
     supply: &mut [u64],
     demand: &mut [u64],
+    masks: &mut [u64],
 )
-    requires { ⌜ CanWeigh n (now parents) (now mu) (now nu) (now supply) (now demand) ⌝ }
-    ensures { λ _.
-        ⌜ Filled n (subtotal (at (now (parents .entry))) n (supplyOf (at (now (mu .entry))))) (now (supply .entry)) (now (supply .exit))
-        × Filled n (subtotal (at (now (parents .entry))) n (demandOf n (at (now (nu .entry))))) (now (demand .entry)) (now (demand .exit)) ⌝ }
+    requires { ⌜ CanWeigh n (now parents) (now mu) (now nu) (now supply) (now demand) (now masks) ⌝ }
+    ensures first { λ _. ⌜ Filled n (subtotal (at (now (parents .entry))) n (supplyOf (at (now (mu .entry))))) (now (supply .entry)) (now (supply .exit)) ⌝ }
+    ensures second { λ _. ⌜ Filled n (subtotal (at (now (parents .entry))) n (demandOf n (at (now (nu .entry))))) (now (demand .entry)) (now (demand .exit)) ⌝ }
+    ensures bits { λ _. ⌜ Filled n (λ x. mask n (λ y. below (at (now (parents .entry))) n y x)) (now (masks .entry)) (now (masks .exit)) ⌝ }
 {
-    let mut masses = [0u64; 64];
-    perturbed_supply(n, mu, &mut masses);
-    weigh::subtotals(n, 0, parents, &masses, supply);
-    perturbed_demand(n, nu, &mut masses);
-    weigh::subtotals(n, 0, parents, &masses, demand);
+    let mut sent = [0u64; 64];
+    let mut taken = [0u64; 64];
+    let mut depth = [0u32; 64];
+    perturbed_supply(n, mu, &mut sent);
+    perturbed_demand(n, nu, &mut taken);
+    sums::subtree_tables(
+        n,
+        0,
+        parents,
+        &sent,
+        &taken,
+        &mut depth,
+        masks,
+        supply,
+        demand,
+    );
 }
 
 // The basis of a spanning tree, given by the parents and the edges to them.
@@ -115,7 +128,6 @@ pub fn first_basis(
         (now (parents .entry)) (now (above .exit)) (now (supply .exit)) (now (demand .exit)) (now (masks .exit)) (now (potential .exit))) ⌝ }
 {
     lengths_above(n, lengths, edge, above);
-    masses_below(n, parents, mu, nu, supply, demand);
-    walk::subtree_masks(n, 0, parents, masks);
+    tables_below(n, parents, mu, nu, supply, demand, masks);
     potential::potential(n, parents, above, supply, demand, potential);
 }

@@ -9,6 +9,7 @@ ghost use Rattle.network_simplex.specs.Search.{ExchangeInput, Exchanged,
 use crate::first_basis;
 use pivot_rules::entering;
 use pivot_rules::leaving;
+use spanning_tree::tree::Tree;
 
 // x where the test holds, else y.
 fn choose(test: bool, x: usize, y: usize) -> usize
@@ -17,12 +18,12 @@ fn choose(test: bool, x: usize, y: usize) -> usize
     if test { x } else { y }
 }
 
-// The edge from s to t enters, along which the potential falls by more than its length, and another edge leaves.
+// The edge from s to t enters, along which the potential falls by more than its length, `long`, and another edge leaves.
 fn exchange(
     n: usize,
     s: usize,
     t: usize,
-    length: u32,
+    long: u32,
     parents: &mut [u32],
     above: &mut [u32],
     supply: &mut [u64],
@@ -30,9 +31,9 @@ fn exchange(
     masks: &mut [u64],
     potential: &mut [u32],
 )
-    requires { ⌜ ExchangeInput n s t length (now parents) (now above) (now supply) (now demand) (now masks) (now potential) ⌝ }
+    requires { ⌜ ExchangeInput n s t long (now parents) (now above) (now supply) (now demand) (now masks) (now potential) ⌝ }
     ensures { λ _.
-        ⌜ Exchanged n s t length (now (parents .entry)) (now (above .entry)) (now (supply .entry)) (now (demand .entry)) (now (masks .entry)) (now (potential .entry))
+        ⌜ Exchanged n s t long (now (parents .entry)) (now (above .entry)) (now (supply .entry)) (now (demand .entry)) (now (masks .entry)) (now (potential .entry))
         (now (parents .exit)) (now (above .exit)) (now (supply .exit)) (now (demand .exit)) (now (masks .exit)) (now (potential .exit)) ⌝ }
 {
     let join = leaving::join_vertex(n, parents, masks, s, t);
@@ -46,7 +47,7 @@ fn exchange(
         b,
         leaves.vertex,
         join,
-        length,
+        long,
         rises,
         parents,
         above,
@@ -136,7 +137,8 @@ fn search(
     }
 }
 
-// A best tree and its potential, from a spanning tree given by the parents and the edges to them.
+// A best tree, from a spanning tree given by the parents and the edges to them; fills in the length above each of its vertices, and its
+// potential.
 pub fn best_tree(
     n: usize,
     a: &[u32],
@@ -146,12 +148,14 @@ pub fn best_tree(
     nu: &[u64],
     parents: &mut [u32],
     edge: &[u32],
+    above: &mut [u32],
     potential: &mut [u32],
-)
-    requires { ⌜ CanStart (graph n (now a) (now b) (now lengths)) (now mu) (now nu) (now parents) (now edge) × (length (now potential) ≡ 64) ⌝ }
-    ensures { λ _. ⌜ BestTree (graph n (now (a .entry)) (now (b .entry)) (now (lengths .entry))) (at (now (mu .entry))) (at (now (nu .entry))) (now (parents .exit)) (now (potential .exit)) ⌝ }
+) -> Tree
+    requires { ⌜ CanStart (graph n (now a) (now b) (now lengths)) (now mu) (now nu) (now parents) (now edge)
+        × ((length (now above) ≡ 64) × (length (now potential) ≡ 64)) ⌝ }
+    ensures { λ t. ⌜ BestTree (graph n (now (a .entry)) (now (b .entry)) (now (lengths .entry))) (at (now (mu .entry))) (at (now (nu .entry)))
+        (t .n) (t .root) (t .parents) (now (above .exit)) (now (potential .exit)) ⌝ }
 {
-    let mut above = [0u32; 64];
     let mut supply = [0u64; 64];
     let mut demand = [0u64; 64];
     let mut masks = [0u64; 64];
@@ -162,7 +166,7 @@ pub fn best_tree(
         nu,
         parents,
         edge,
-        &mut above,
+        above,
         &mut supply,
         &mut demand,
         &mut masks,
@@ -174,10 +178,11 @@ pub fn best_tree(
         b,
         lengths,
         parents,
-        &mut above,
+        above,
         &mut supply,
         &mut demand,
         &mut masks,
         potential,
     );
+    Tree::new(n, 0, parents)
 }

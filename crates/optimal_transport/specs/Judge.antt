@@ -1,14 +1,14 @@
 -- The call that judges a given tree: its refusal number, and its whole outcome.
-use Prim.Native.Nat.{ℕ, _<_}
+use Prim.Native.Nat.{ℕ}
 use mathlib.Core.Path.{_≡_}
 use mathlib.Core.Bool.{true}
-use mathlib.Core.Logic.{_⊎_}
-use Rattle.arithmetic.specs.Table.{at}
+use lib.Dec.{eqb}
+use Rattle.arithmetic.specs.Sum.{pick}
+use Rattle.arithmetic.specs.Table.{at, result}
 use Rattle.graph.specs.Graph.{Graph}
-use Rattle.graph.specs.SpanningTree.{SpanningTree}
-use Rattle.spanning_tree.specs.Weigh.{treeCost}
-use Rattle.spanning_tree.specs.Evaluate.{Given, givenRefusal}
-use Rattle.duality.specs.Best.{LeastTree}
+use Rattle.tree_evaluation.specs.Weigh.{treeCost}
+use Rattle.spanning_tree.specs.Given.{Given, givenRefusal}
+use Rattle.duality.specs.BestCost.{bestCost}
 
 -- "weighing and judging run to 10"; judging has no answer table
 unfoldable pub judgeRefusal : Graph → Given → ℕ
@@ -18,16 +18,7 @@ judgeRefusal g w = givenRefusal g w true
 abbrev pub givenCost : Graph → Given → ℕ
 givenCost g w = treeCost g (w .root) (at (w .parents)) (at (w .mu)) (at (w .nu))
 
--- a spanning tree that costs less than c
-pub record CheaperTree (g : Graph) (mu nu : ℕ → ℕ) (c : ℕ) : Type 0 where
-  pub root : ℕ
-  pub parents : ℕ → ℕ
-  pub spanning : SpanningTree g root parents
-  pub less : treeCost g root parents mu nu < c
-
 -- "Judging a tree returns 1 exactly when every other spanning tree of the patch, under any root, costs at least as much; else 0"
 pub record Judged (g : Graph) (w : Given) (k optimal : ℕ) : Type 0 where
   pub refusal : k ≡ judgeRefusal g w
-  pub refused : (k ≡ 0 → ⊥) → optimal ≡ 0
-  pub accepted : k ≡ 0 → ((optimal ≡ 1) × LeastTree g (at (w .mu)) (at (w .nu)) (givenCost g w))
-      ⊎ ((optimal ≡ 0) × CheaperTree g (at (w .mu)) (at (w .nu)) (givenCost g w))
+  pub optimal-is : optimal ≡ result k (pick (eqb (givenCost g w) (bestCost g (at (w .mu)) (at (w .nu)))) 1)

@@ -1,89 +1,39 @@
 -- The best call and the judging of a tree: what their checks accept, what their parts give, and how they end.
-use Prim.Native.Nat.{ℕ, zero, suc, _*_, _^_, _≤_, _<_}
-use mathlib.Core.Path.{_≡_, refl, sym, ap, _∙_}
-use mathlib.Core.Bool.{Bool, true, false, _&&_, _||_, and-false}
-use mathlib.Core.Logic.{inl, inr}
+use Prim.Native.Nat.{ℕ, zero, suc, _*_, _^_, _≤_}
+use mathlib.Core.Path.{_≡_, refl, sym, _∙_}
+use mathlib.Core.Bool.{Bool, true, false, _&&_, and-false}
 use mathlib.Core.List.{List, _++_}
-use native.Mathlib.Nat.{mul-le-mul, mul-le-mul-right}
+use native.Mathlib.Nat.{mul-le-mul}
 use native.Mathlib.Omega.{arith}
 use lib.Dec.{eqb}
 use lib.IntN.{ℤ, pos, subℕ}
 use lib.ListN.{length, drop}
 use borrow.Author.Tests.{eqb-true, eq-eqb, ne-eqb, lt-leb}
 use Rattle.arithmetic.specs.Bools.{case≤, and-l, and-r}
-use Rattle.arithmetic.specs.Sum.{sum, sum-ext, sum-ge, sum-le-mul, pick}
-use Rattle.arithmetic.specs.Table.{at, tab, matrix, front-at, front-length, front-rest, length-rows}
-use Rattle.rooted_tree.specs.Chain.{climb, below}
-use Rattle.rooted_tree.specs.Rooted.{Rooted}
-use Rattle.rooted_tree.specs.Subtotal.{subtotal}
-use Rattle.rooted_tree.specs.Flow.{flowCost}
-use Rattle.graph.specs.Graph.{Graph, joined}
-use Rattle.graph.specs.SpanningTree.{SpanningTree}
+use Rattle.arithmetic.specs.Sum.{sum, sum-ge}
+use Rattle.arithmetic.specs.Table.{at, tab, length-tab, length-rows}
+use Rattle.graph.specs.Graph.{Graph, graph}
 use Rattle.graph.specs.Checks.{verticesOk, graphRefusal}
 use Rattle.graph.specs.Accepted.{Accepted, vertices-in, not-refused, accepted-refusal, refused}
 use Rattle.graph.specs.EdgeLaws.{edgeLength-most}
 use Rattle.graph.specs.FirstTree.{FirstTree, Checked}
 use Rattle.tree_checks.specs.Checks.{totalsOk, totalsEqual, measureRefusal}
+use Rattle.tree_checks.specs.TreeTests.{spanning-rooted}
+use Rattle.spanning_tree.specs.TreeValue.{parentsHeld}
+use Rattle.spanning_tree.specs.Given.{Given}
+use Rattle.spanning_tree.specs.GivenLaws.{GivenChecked, roomOk, two-passed, totals-in, equal-in, room-in}
+use Rattle.tree_evaluation.specs.Weigh.{treeCost}
+use Rattle.tree_evaluation.specs.EvaluateTree.{LengthsTo, Evaluable, TreeEvaluated}
+use Rattle.tree_evaluation.specs.GivenTree.{given-evaluable, given-cost}
+use Rattle.duality.specs.Best.{Best}
+use Rattle.duality.specs.BestCost.{bestCost}
+use Rattle.duality.specs.BestCostLaws.{best-is}
+use Rattle.duality.specs.BestLaws.{certificate-best}
 use Rattle.shortest_paths.specs.ShortestPathTree.{CanShorten}
-use Rattle.spanning_tree.specs.Weigh.{treeCost}
-use Rattle.transport_plan.specs.Plan.{moves}
-use Rattle.transport_plan.specs.PlanSteps.{Measures}
-use Rattle.spanning_tree.specs.Evaluate.{Given}
-use Rattle.tree_checks.specs.TreeTests.{spanning-rooted, accepted-spanning, accepted-rooted}
-use Rattle.tree_checks.specs.Walk.{Filled}
-use Rattle.spanning_tree.specs.WeighLaws.{Within, costFrom, treeCost-flow}
-use Rattle.spanning_tree.specs.EvaluateLaws.{GivenChecked, LengthsTo, roomOk, two-passed, totals-in, equal-in, room-in}
-use Rattle.duality.specs.Best.{LeastTree}
-use Rattle.duality.specs.BestLaws.{Certificate, certificate-best}
-use Rattle.optimal_transport.specs.Solve.{solveRefusal, bestPlan, Solved}
-use Rattle.optimal_transport.specs.Judge.{judgeRefusal, givenCost, Judged}
 use Rattle.network_simplex.specs.FirstBasis.{CanStart, vertices}
 use Rattle.network_simplex.specs.Search.{BestTree}
-
--- ---- the figures of a tree depend on the parents of the vertices below n alone
-
--- p and q give them the same parents
-abbrev SameParents : ℕ → (ℕ → ℕ) → (ℕ → ℕ) → Type 0
-SameParents n p q = (x : ℕ) → x < n → (p x ≡ q x) × (p x < n)
-
-module _ {n : ℕ} {p q : ℕ → ℕ} (same : SameParents n p q) where
-  climb-same : (k y : ℕ) → y < n → climb p k y ≡ climb q k y
-  unfolding climb
-  climb-same zero y l = refl
-  climb-same (suc k) y l = climb-same k (p y) (same y l .1) ∙ ap (climb q k) (same y l .0)
-
-  below-same : (k y x : ℕ) → y < n → below p k y x ≡ below q k y x
-  unfolding below
-  below-same zero y x l = refl
-  below-same (suc k) y x l =
-      ap (λ (b : Bool). eqb y x || b) (below-same k (p y) x (same y l .1) ∙ ap (λ (z : ℕ). below q k z x) (same y l .0))
-
-  subtotal-same : (m : ℕ → ℕ) (x : ℕ) → subtotal p n m x ≡ subtotal q n m x
-  unfolding subtotal
-  subtotal-same m x = sum-ext n _ _ (λ y l. ap (λ (b : Bool). pick b (m y)) (below-same n y x l))
-
-module _ (g : Graph) {p q : ℕ → ℕ} (same : SameParents (g .n) p q) where
-  spanning-same : {r : ℕ} → SpanningTree g r p → SpanningTree g r q
-  spanning-same {r} t = record {
-    root = t .root;
-    stay = sym (same r (t .root) .0) ∙ t .stay;
-    edge = λ x l d. ap (joined g x) (sym (same x l .0)) ∙ t .edge x l d;
-    chain = λ x l. (t .chain x l .0, sym (climb-same same (t .chain x l .0) x l) ∙ t .chain x l .1);
-  }
-
-  treeCost-same : (r : ℕ) (mu nu : ℕ → ℕ) → treeCost g r p mu nu ≡ treeCost g r q mu nu
-  unfolding flowCost
-  treeCost-same r mu nu =
-      treeCost-flow g r p mu nu
-      ∙ sum-ext (g .n) _ _ (λ x l. rw (same x l .0, subtotal-same same mu x, subtotal-same same nu x))
-      ∙ sym (treeCost-flow g r q mu nu)
-
-  certificate-same : {mu nu U : ℕ → ℕ} → Certificate g mu nu p U → Certificate g mu nu q U
-  certificate-same {mu} {nu} c = record {
-    spanning = spanning-same (c .spanning);
-    within = c .within;
-    weighs = rw (← treeCost-same 0 mu nu) (c .weighs);
-  }
+use Rattle.optimal_transport.specs.Solve.{solveRefusal, bestPlan, Solved}
+use Rattle.optimal_transport.specs.Judge.{judgeRefusal, givenCost, Judged}
 
 -- ---- checks 1 to 7
 
@@ -205,62 +155,83 @@ module _ (g : Graph) (mu nu : List ℕ) (answers : Bool) {t : Bool} {first : ℕ
         let number = e ∙ sym (accepted-refusal g (measuresLong (g .n) mu nu answers) (accepts .0) (accepts .1) _) in
         record { number = number; start = λ y. can-start (solve-passed g mu nu answers (sym number ∙ y) .0) (checked .first z) t64 e64 }
 
--- ---- the costs
+-- ---- the tree found
 
--- a potential of a few small values against a mass
-module _ (n : ℕ) (u m : ℕ → ℕ) (small : Within n u (2 ^ 24) × (sum n m ≤ 2 ^ 24)) where
-  pub product-most : (y : ℕ) → y < n → u y * m y ≤ 2 ^ 48
-  product-most y l =
-      let i : u y ≤ 2 ^ 24 = omega (arith, small .0 y l) in
-      let j : m y ≤ 2 ^ 24 = omega (arith, sum-ge n y m l, small .1) in
-      omega (arith, mul-le-mul i j)
+pub can-of : {g : Graph} {mu nu tree edge : List ℕ} → CanStart g mu nu tree edge → CanSolve g mu nu
+can-of s = record { accepted = s .accepted; same = s .same; light = s .light; mu-size = s .mu-size; nu-size = s .nu-size }
 
-  pub weight-lt : n ≤ 64 → (k : ℕ) → k ≤ n → sum k (λ y. u y * m y) < 2 ^ 63
-  weight-lt few k h =
-      omega (
-        arith,
-        sum-le-mul k (2 ^ 48) (λ y. u y * m y) (λ y l. product-most y (omega arith)),
-        mul-le-mul-right (2 ^ 48) h,
-        mul-le-mul-right (2 ^ 48) few,
-      )
+-- a tree whose cost can be asked for: it can be evaluated, with tables for 64 vertices
+abbrev pub CanCost : (n r : ℕ) (parents above mu nu : List ℕ) → Type 0
+CanCost n r parents above mu nu =
+    (imbalances : List ℤ) (entries : List ℕ) → 64 ≤ length imbalances → 4096 ≤ length entries → Evaluable n r parents above mu nu imbalances entries
 
--- a tree and a potential that certify each other, and their cost c
-pub record BestAnswer (g : Graph) (mu nu : ℕ → ℕ) (tree u : List ℕ) (c : ℕ) : Type 0 where
-  pub best : BestTree g mu nu tree u
-  pub cost-is : c ≡ treeCost g 0 (at tree) mu nu
+-- and its cost, on every graph that has the lengths above its vertices
+abbrev pub CostOf : (n r : ℕ) (parents above mu nu : List ℕ) (cost : ℕ) → Type 0
+CostOf n r parents above mu nu cost =
+    (a b lengths : List ℕ) → LengthsTo (graph n a b lengths) r (at parents) (at above)
+    → cost ≡ treeCost (graph n a b lengths) r (at parents) (at mu) (at nu)
 
--- c is the least cost of a spanning tree
-pub record LeastCost (g : Graph) (mu nu : ℕ → ℕ) (c : ℕ) : Type 0 where
-  pub parents : ℕ → ℕ
-  pub spanning : SpanningTree g 0 parents
-  pub cost-is : c ≡ treeCost g 0 parents mu nu
-  pub least : LeastTree g mu nu c
+-- room for the tables of 64 vertices
+pub room-64 : (g : Graph) → Accepted g → (g .n ≤ 64) × (g .n * g .n ≤ 4096)
+room-64 g acc = let v = vertices-in (g .n) (acc .vertices) in (v .1, omega (arith, mul-le-mul (v .1) (v .1)))
 
-pub least-cost : {g : Graph} {mu nu tree u : List ℕ} {c : ℕ} → CanSolve g mu nu → BestAnswer g (at mu) (at nu) tree u c
-    → LeastCost g (at mu) (at nu) c
-least-cost {g} {mu} {nu} {tree} {u} can w =
-    let b = certificate-best g (can .accepted) (at mu) (at nu) (at tree) (at u) (can .same) (w .best .certificate)
-    (λ y. subℕ (at u y) (at u 0)) (λ y l. refl) in
-    record { parents = at tree; spanning = b .spanning; cost-is = w .cost-is; least = rw (w .cost-is) (b .least-tree) }
+-- its cost is the best, and it can be evaluated
+module _ {g : Graph} {mu nu : List ℕ} (can : CanSolve g mu nu) {n r : ℕ} {parents above u : List ℕ}
+    (found : BestTree g (at mu) (at nu) n r parents above u) where
+  own : Best g (at mu) (at nu) (at parents) (bestPlan g mu nu (at parents)) (λ y. subℕ (at u y) (at u 0)) (treeCost g 0 (at parents) (at mu) (at nu))
+  own = certificate-best g (can .accepted) (at mu) (at nu) (at parents) (at u) (can .same) (found .certificate) _ (λ y l. refl)
 
--- a tree whose cost can be added up
-pub record CanCost (n r : ℕ) (parents above mu nu : List ℕ) : Type 0 where
-  pub few : n ≤ 64
-  pub long-parents : n ≤ length parents
-  pub long-above : n ≤ length above
-  pub tree : Rooted n r (at parents)
-  pub short : Within n (at above) (2 ^ 16)
-  pub measures : Measures n mu nu
+  least : treeCost g 0 (at parents) (at mu) (at nu) ≡ bestCost g (at mu) (at nu)
+  least = best-is g (at mu) (at nu) (can .accepted) own
 
--- from the masses below each vertex
-pub flow-from : (n r : ℕ) (p l m v : ℕ → ℕ) (a a' b b' : List ℕ) → Filled n (subtotal p n m) a a' → Filled n (subtotal p n v) b b' → (c : ℕ)
-    → c ≡ costFrom n r l (at a') (at b') → c ≡ flowCost n r p l m v
-unfolding flowCost
-flow-from n r p l m v a a' b b' f h c e = e ∙ sum-ext n _ _ (λ x k. rw (f .each x k, h .each x k))
+  pub found-best : Best g (at mu) (at nu) (at parents) (bestPlan g mu nu (at parents)) (λ y. subℕ (at u y) (at u 0)) (bestCost g (at mu) (at nu))
+  found-best = rw least at own
 
-flow-tree : (g : Graph) (r : ℕ) (p l mu nu : ℕ → ℕ) → LengthsTo g p l → flowCost (g .n) r p l mu nu ≡ treeCost g r p mu nu
-unfolding flowCost
-flow-tree g r p l mu nu h = sum-ext (g .n) _ _ (λ x k. rw (h x k)) ∙ sym (treeCost-flow g r p mu nu)
+  few : g .n ≤ 64
+  few = vertices-in (g .n) (can .accepted .vertices) .1
+
+  pub found-few : (n ≤ 64) × (n ≡ g .n)
+  found-few = (omega (arith, few, found .vertices-are), found .vertices-are)
+
+  pub found-evaluable : {imbalances : List ℤ} {entries : List ℕ} → g .n ≤ length imbalances → g .n * g .n ≤ length entries
+      → Evaluable n r parents above mu nu imbalances entries
+  found-evaluable i e = record {
+    few = found-few .0;
+    tree = rw (found .vertices-are, found .root-is) (spanning-rooted g 0 (at parents) (can .accepted .edges) (own .spanning));
+    long-above = omega (arith, found-few .0, found .above-size);
+    short = λ x l d. omega (
+      arith,
+      found .above-is x (omega (arith, found .vertices-are)) (λ q. d (q ∙ sym (found .root-is))),
+      edgeLength-most g (can .accepted .edges) (can .accepted .lengths) x (at parents x),
+    );
+    measures = record {
+      long-mu = omega (arith, can .mu-size, found .vertices-are);
+      long-nu = omega (arith, can .nu-size, found .vertices-are);
+      total-mu = rw (found .vertices-are) (can .light);
+      total-nu = rw (found .vertices-are, ← can .same) (can .light);
+    };
+    room-imbalance = omega (arith, i, found .vertices-are);
+    room-plan = rw (found .vertices-are) e;
+  }
+
+  lengths : LengthsTo (graph n (g .lower) (g .upper) (g .lengths)) r (at parents) (at above)
+  lengths x l d = rw (found .vertices-are) (found .above-is x (omega (arith, found .vertices-are)) (λ q. d (q ∙ sym (found .root-is))))
+
+  module _ {imbalances imbalances' : List ℤ} {entries entries' : List ℕ} {cost moved : ℕ}
+      (promise : LengthsTo (graph n (g .lower) (g .upper) (g .lengths)) r (at parents) (at above)
+      → TreeEvaluated (graph n (g .lower) (g .upper) (g .lengths)) r (at parents) (at mu) (at nu)
+      imbalances entries cost moved imbalances' entries') where
+    pub found-value : TreeEvaluated g 0 (at parents) (at mu) (at nu) imbalances entries cost moved imbalances' entries'
+    found-value = rw (found .vertices-are, found .root-is) at (promise lengths)
+
+    pub found-cost : cost ≡ bestCost g (at mu) (at nu)
+    found-cost = found-value .cost-is ∙ least
+
+  pub found-can : CanCost n r parents above mu nu
+  found-can imbalances entries i e = let o = room-64 g (can .accepted) in found-evaluable (omega (arith, o .0)) (omega (arith, o .1))
+
+  pub found-least : {cost : ℕ} → CostOf n r parents above mu nu cost → cost ≡ bestCost g (at mu) (at nu)
+  found-least c = rw (found .vertices-are, found .root-is) at (c (g .lower) (g .upper) (g .lengths) lengths) ∙ least
 
 -- ---- how the best call ends
 
@@ -274,11 +245,22 @@ module _ (g : Graph) (mu nu parents : List ℕ) (potentials : List ℤ) (entries
 
   module _ {k : ℕ} {tree edge : List ℕ} (checked : SolveChecked g mu nu answers k tree edge) where
     pub solve-refused : (k ≡ 0 → ⊥) → Solved g mu nu parents potentials entries k 0 0 parents potentials entries
-    solve-refused d = record {
-      refusal = checked .number ∙ same-number;
-      accepted = λ z. absurd (d z);
-      refused = λ _. record { cost-0 = refl; moves-0 = refl; parents-same = refl; potentials-same = refl; entries-same = refl };
-    }
+    solve-refused d =
+        elim k as (λ (k : ℕ). k ≡ solveRefusal g mu nu parents potentials entries → (k ≡ 0 → ⊥)
+        → Solved g mu nu parents potentials entries k 0 0 parents potentials entries) [
+          | zero ↦ λ e f. absurd (f refl)
+          | suc k ↦ λ e f. record {
+            refusal = e;
+            cost-is = refl;
+            p = at mu;
+            u = λ y. pos 0;
+            best = λ z. absurd (f z);
+            moves-are = refl;
+            parents-are = refl;
+            potentials-are = refl;
+            plan-is = refl;
+          }
+        ] (checked .number ∙ same-number) d
 
     module _ (z : k ≡ 0) where
       pub room-for : (g .n ≤ length parents) × ((g .n ≤ length potentials) × (g .n * g .n ≤ length entries))
@@ -286,94 +268,67 @@ module _ (g : Graph) (mu nu parents : List ℕ) (potentials : List ℤ) (entries
           room-in (g .n) _ _ _
           (sym (room (vertices (checked .start z) .1)) ∙ solve-passed g mu nu answers (sym (checked .number) ∙ z) .1)
 
-      module _ {tree' u parents' : List ℕ} {cost : ℕ} (answer : BestAnswer g (at mu) (at nu) tree' u cost)
-          (copied : parents' ≡ tab (g .n) (at tree') ++ drop (g .n) parents) where
-        same : SameParents (g .n) (at tree') (at parents')
-        same x l = (rw copied (sym (front-at (g .n) (at tree') parents 0 x l)), answer .best .into x l)
+      module _ {n r : ℕ} {best above u : List ℕ} (found : BestTree g (at mu) (at nu) n r best above u)
+          {imbalances imbalances' : List ℤ} {entries' : List ℕ} {cost moved : ℕ}
+          (promise : LengthsTo (graph n (g .lower) (g .upper) (g .lengths)) r (at best) (at above)
+          → TreeEvaluated (graph n (g .lower) (g .upper) (g .lengths)) r (at best) (at mu) (at nu)
+          imbalances entries cost moved imbalances' entries') where
+        can : CanSolve g mu nu
+        can = can-of (checked .start z)
 
-        certificate : Certificate g (at mu) (at nu) (at parents') (at u)
-        certificate = certificate-same g same (answer .best .certificate)
-
-        pub tree-handed-out : Rooted (g .n) 0 (at parents')
-        tree-handed-out = spanning-rooted g 0 (at parents') (checked .start z .accepted .edges) (certificate .spanning)
-
-        pub solved : {potentials' : List ℤ} {entries' : List ℕ} {moved : ℕ}
+        pub solved : {parents' : List ℕ} {potentials' : List ℤ} → parents' ≡ tab n (at best) ++ drop n parents
             → potentials' ≡ tab (g .n) (λ y. subℕ (at u y) (at u 0)) ++ drop (g .n) potentials
-            → (entries' ≡ matrix (g .n) (bestPlan g mu nu parents') ++ drop (g .n * g .n) entries)
-            × (moved ≡ moves (g .n) (bestPlan g mu nu parents'))
             → Solved g mu nu parents potentials entries 0 cost moved parents' potentials' entries'
-        solved raised planned = record {
-          refusal = sym z ∙ checked .number ∙ same-number;
-          accepted = λ _. record {
-            best = rw (answer .cost-is, treeCost-same g same 0 (at mu) (at nu))
-                (certificate-best g (checked .start z .accepted) (at mu) (at nu) (at parents') (at u) (checked .start z .same) certificate _
-                (λ y l. rw raised (front-at (g .n) _ potentials (pos 0) y l)));
-            moves-are = planned .1;
-            plan-is = rw (length-rows (g .n) (g .n) (bestPlan g mu nu parents')) (planned .0);
-            parents-long = rw copied (front-length (g .n) _ parents (room-for .0));
-            parents-rest = rw copied (front-rest (g .n) _ parents);
-            potentials-long = rw raised (front-length (g .n) _ potentials (room-for .1 .0));
-            potentials-rest = rw raised (front-rest (g .n) _ potentials);
-          };
-          refused = λ d. absurd (d refl);
-        }
+        solved copied raised =
+            let value = found-value can found promise in
+            record {
+              refusal = sym z ∙ checked .number ∙ same-number;
+              cost-is = found-cost can found promise;
+              p = at best;
+              u = λ y. subℕ (at u y) (at u 0);
+              best = λ _. found-best can found;
+              moves-are = value .moves-are;
+              parents-are = rw (length-tab (g .n) (at best)) (rw (found .vertices-are) at copied);
+              potentials-are = rw (length-tab (g .n) (λ y. subℕ (at u y) (at u 0))) raised;
+              plan-is = rw (length-rows (g .n) (g .n) (bestPlan g mu nu (at best))) (value .plan-is);
+            }
 
 -- ---- how the judging ends
 
 module _ {g : Graph} {w : Given} {k : ℕ} {above above' : List ℕ} (checked : GivenChecked g w true k above above') where
-  pub judge-refused : (k ≡ 0 → ⊥) → Judged g w k 0
+  judge-number : k ≡ judgeRefusal g w
   unfolding judgeRefusal
-  judge-refused d = record { refusal = checked .number; refused = λ _. refl; accepted = λ z. absurd (d z) }
+  judge-number = checked .number
+
+  pub judge-refused : (k ≡ 0 → ⊥) → Judged g w k 0
+  judge-refused d =
+      elim k as (λ (k : ℕ). k ≡ judgeRefusal g w → (k ≡ 0 → ⊥) → Judged g w k 0) [
+        | zero ↦ λ e f. absurd (f refl)
+        | suc k ↦ λ e f. record { refusal = e; optimal-is = refl }
+      ] judge-number d
 
   module _ (z : k ≡ 0) where
-    pub can-cost : 64 ≤ length above → CanCost (g .n) (w .root) (w .parents) above' (w .mu) (w .nu)
-    can-cost long =
-        let a = checked .accepted z in
-        let l = checked .lengths z in
-        let v = vertices-in (g .n) (a .graph .vertices) in
-        record {
-          few = v .1;
-          long-parents = omega arith;
-          long-above = omega arith;
-          tree = accepted-rooted g (w .root) (at (w .parents)) (a .tree);
-          short = λ x h. omega (arith, l .each x h, edgeLength-most g (a .graph .edges) (a .graph .lengths) x (at (w .parents) x));
-          measures = record { long-mu = omega arith; long-nu = omega arith; total-mu = a .total-mu; total-nu = a .total-nu };
-        }
-
     pub can-solve : CanSolve g (w .mu) (w .nu)
     can-solve =
         let a = checked .accepted z in
         record { accepted = a .graph; same = a .same-total; light = a .total-mu; mu-size = a .long-mu; nu-size = a .long-nu }
 
-    module _ {cost least : ℕ} (cost-is : cost ≡ flowCost (g .n) (w .root) (at (w .parents)) (at above') (at (w .mu)) (at (w .nu)))
-        (best : LeastCost g (at (w .mu)) (at (w .nu)) least) where
-      given-is : cost ≡ givenCost g w
-      given-is = cost-is ∙ flow-tree g (w .root) (at (w .parents)) (at above') (at (w .mu)) (at (w .nu)) (checked .lengths z .each)
+    -- the given tree by value
+    module _ {n r : ℕ} {parents : List ℕ} (held : (n ≡ g .n) × ((r ≡ w .root) × (parents ≡ parentsHeld (g .n) (w .parents)))) where
+      pub given-can : 64 ≤ length above → CanCost n r parents above' (w .mu) (w .nu)
+      given-can long imbalances entries i e =
+          let o = room-64 g (can-solve .accepted) in
+          given-evaluable checked z held long (omega (arith, o .0)) (omega (arith, o .1))
 
-      number : 0 ≡ judgeRefusal g w
-      unfolding judgeRefusal
-      number = sym z ∙ checked .number
+      module _ {cost least : ℕ} (costs : CostOf n r parents above' (w .mu) (w .nu) cost) (best : least ≡ bestCost g (at (w .mu)) (at (w .nu))) where
+        given-is : cost ≡ givenCost g w
+        given-is = given-cost checked z held (costs (g .lower) (g .upper) (g .lengths))
 
-      pub judged-best : cost ≡ least → Judged g w 0 1
-      judged-best e = record {
-        refusal = number;
-        refused = λ d. absurd (d refl);
-        accepted = λ _. inl (refl, rw (← given-is, e) (best .least));
-      }
+        pub judged-best : cost ≡ least → Judged g w 0 1
+        judged-best e = record { refusal = sym z ∙ judge-number; optimal-is = rw (eq-eqb _ _ (sym given-is ∙ e ∙ best)) }
 
-      pub judged-other : (cost ≡ least → ⊥) → Judged g w 0 0
-      judged-other d = record {
-        refusal = number;
-        refused = λ _. refl;
-        accepted = λ _. inr (
-          refl,
-          record {
-            root = 0;
-            parents = best .parents;
-            spanning = best .spanning;
-            less =
-                let le = best .least (w .root) (at (w .parents)) (accepted-spanning g (w .root) (at (w .parents)) (checked .accepted z .tree)) in
-                omega (arith, le, given-is, best .cost-is, d);
-          },
-        );
-      }
+        pub judged-other : (cost ≡ least → ⊥) → Judged g w 0 0
+        judged-other d = record {
+          refusal = sym z ∙ judge-number;
+          optimal-is = rw (ne-eqb (givenCost g w) (bestCost g (at (w .mu)) (at (w .nu))) (λ e. d (given-is ∙ e ∙ sym best)));
+        }

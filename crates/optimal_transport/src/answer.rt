@@ -1,18 +1,20 @@
-// The best call and the judging of a tree, piece by piece: the checks, the costs, and what is written.
+// The best call and the judging of a tree, piece by piece: the checks, the trees, their costs, and what is written.
 ghost use mathlib.Core.Path.{_≡_};
 ghost use mathlib.Core.List.{_++_};
-ghost use Prim.Native.Nat.{_*_, _^_, _≤_};
+ghost use Prim.Native.Nat.{_^_, _≤_};
 ghost use lib.IntN.{subℕ};
 ghost use lib.ListN.{length, drop};
-ghost use Rattle.arithmetic.specs.Sum.{sum};
 ghost use Rattle.arithmetic.specs.Table.{at, tab};
-ghost use Rattle.rooted_tree.specs.Flow.{flowCost};
 ghost use Rattle.graph.specs.Graph.{graph};
-ghost use Rattle.spanning_tree.specs.WeighLaws.{Within};
+ghost use Rattle.tree_walks.specs.Sums.{Within};
+ghost use Rattle.duality.specs.BestCost.{bestCost};
 ghost use Rattle.network_simplex.specs.FirstBasis.{CanStart};
-ghost use Rattle.optimal_transport.specs.SolveLaws.{measuresLong, SolveChecked, BestAnswer, CanCost, CanSolve, LeastCost};
-use spanning_tree::weigh;
+ghost use Rattle.network_simplex.specs.Search.{BestTree};
+ghost use Rattle.optimal_transport.specs.SolveLaws.{measuresLong, SolveChecked, CanSolve, CanCost, CostOf};
+use spanning_tree::tree::Tree;
 use tree_checks::checks;
+use tree_evaluation::evaluate_tree;
+use tree_walks::sums;
 
 // both paintings are n long, and the answer tables are fine
 fn measures_fit(n: usize, mu: &[u64], nu: &[u64], answers: bool) -> bool
@@ -52,22 +54,7 @@ pub fn solve_refusal(
     checks::measures_refusal(n, mu, nu)
 }
 
-// The sum of potential × mass.
-fn weight(n: usize, u: &[u32], m: &[u64]) -> u64
-    requires { ⌜ (n ≤ 64) × ((n ≤ length (now u)) × (n ≤ length (now m))) ⌝ }
-    requires small { ⌜ Within n (at (now u)) (2 ^ 24) × (sum n (at (now m)) ≤ 2 ^ 24) ⌝ }
-    ensures { λ r. ⌜ r ≡ sum n (λ y. at (now (u .entry)) y * at (now (m .entry)) y) ⌝ }
-{
-    let mut total: u64 = 0;
-    let mut y: usize = 0;
-    while y < n {
-        total += u[y] as u64 * m[y];
-        y += 1;
-    }
-    total
-}
-
-// A best tree and its potential, from a first spanning tree, and their cost: what the potential weighs of mu less what it weighs of nu.
+// A best tree, from a first spanning tree; fills in the length above each of its vertices, and its potential.
 pub fn best_answer(
     n: usize,
     a: &[u32],
@@ -75,27 +62,30 @@ pub fn best_answer(
     lengths: &[u32],
     mu: &[u64],
     nu: &[u64],
-    tree: &mut [u32],
+    parents: &mut [u32],
     edge: &mut [u32],
+    above: &mut [u32],
     u: &mut [u32],
-) -> u64
-    requires { ⌜ CanStart (graph n (now a) (now b) (now lengths)) (now mu) (now nu) (now tree) (now edge) × (length (now u) ≡ 64) ⌝ }
-    ensures { λ r. ⌜ BestAnswer (graph n (now (a .entry)) (now (b .entry)) (now (lengths .entry))) (at (now (mu .entry))) (at (now (nu .entry)))
-        (now (tree .exit)) (now (u .exit)) r ⌝ }
+) -> Tree
+    requires { ⌜ CanStart (graph n (now a) (now b) (now lengths)) (now mu) (now nu) (now parents) (now edge)
+        × ((length (now above) ≡ 64) × (length (now u) ≡ 64)) ⌝ }
+    ensures { λ t. ⌜ BestTree (graph n (now (a .entry)) (now (b .entry)) (now (lengths .entry))) (at (now (mu .entry))) (at (now (nu .entry)))
+        (t .n) (t .root) (t .parents) (now (above .exit)) (now (u .exit)) ⌝ }
 {
-    shortest_paths::shortest_path_tree(n, a, b, lengths, mu, nu, tree, edge);
-    network_simplex::search::best_tree(n, a, b, lengths, mu, nu, tree, edge, u);
-    weight(n, u, mu) - weight(n, u, nu)
+    shortest_paths::shortest_path_tree(n, a, b, lengths, mu, nu, parents, edge);
+    network_simplex::search::best_tree(n, a, b, lengths, mu, nu, parents, edge, above, u)
 }
 
 // Fills in the parents of a tree.
-pub fn write_parents(n: usize, tree: &[u32], parents: &mut [u32])
-    requires { ⌜ (n ≤ length (now tree)) × (n ≤ length (now parents)) ⌝ }
-    ensures { λ _. ⌜ now (parents .exit) ≡ tab n (at (now (tree .entry))) ++ drop n (now (parents .entry)) ⌝ }
+pub fn write_parents(tree: Tree, parents: &mut [u32])
+    requires { ⌜ (tree .n ≤ 64) × (tree .n ≤ length (now parents)) ⌝ }
+    ensures { λ _. ⌜ now (parents .exit) ≡ tab (tree .n) (at (tree .parents)) ++ drop (tree .n) (now (parents .entry)) ⌝ }
 {
+    let n = tree.n;
+    let held = tree.parents;
     let mut x: usize = 0;
     while x < n {
-        parents[x] = tree[x];
+        parents[x] = held[x];
         x += 1;
     }
 }
@@ -108,38 +98,43 @@ pub fn write_potential(n: usize, u: &[u32], potential: &mut [i32])
 {
     let mut y: usize = 0;
     while y < n {
-        potential[y] = weigh::difference(u[y] as u64, u[0] as u64);
+        potential[y] = sums::difference(u[y] as u64, u[0] as u64);
         y += 1;
     }
 }
 
-// The cost of a given tree. `above` has the length from each vertex to its parent.
-pub fn given_cost(
-    n: usize,
-    root: usize,
-    parents: &[u32],
-    above: &[u32],
-    mu: &[u64],
-    nu: &[u64],
-) -> u64
-    requires { ⌜ CanCost n root (now parents) (now above) (now mu) (now nu) ⌝ }
-    ensures { λ r. ⌜ r ≡ flowCost n root (at (now (parents .entry))) (at (now (above .entry))) (at (now (mu .entry))) (at (now (nu .entry))) ⌝ }
+// The cost of an accepted tree. `above` has the length from each vertex to its parent.
+pub fn cost_of(tree: Tree, above: &[u32], mu: &[u64], nu: &[u64]) -> u64
+    requires { ⌜ CanCost (tree .n) (tree .root) (tree .parents) (now above) (now mu) (now nu) ⌝ }
+    ensures { λ r. ⌜ CostOf (tree .n) (tree .root) (tree .parents) (now (above .entry)) (now (mu .entry)) (now (nu .entry)) r ⌝ }
 {
-    let mut supply = [0u64; 64];
-    let mut demand = [0u64; 64];
-    weigh::subtotals(n, root, parents, mu, &mut supply);
-    weigh::subtotals(n, root, parents, nu, &mut demand);
-    weigh::tree_cost(n, root, above, &supply, &demand)
+    let mut imbalance = [0i32; 64];
+    let mut plan = [0u32; 4096];
+    let value = evaluate_tree(tree, above, mu, nu, &mut imbalance, &mut plan);
+    value.cost
 }
 
 // The cost of a best tree.
 pub fn least_cost(n: usize, a: &[u32], b: &[u32], lengths: &[u32], mu: &[u64], nu: &[u64]) -> u64
     requires { ⌜ CanSolve (graph n (now a) (now b) (now lengths)) (now mu) (now nu) ⌝ }
-    ensures { λ r. ⌜ LeastCost (graph n (now (a .entry)) (now (b .entry)) (now (lengths .entry))) (at (now (mu .entry))) (at (now (nu .entry))) r ⌝ }
+    ensures { λ r. ⌜ r ≡ bestCost (graph n (now (a .entry)) (now (b .entry)) (now (lengths .entry))) (at (now (mu .entry))) (at (now (nu .entry))) ⌝ }
 {
-    let mut tree = [0u32; 64];
+    let mut parents = [0u32; 64];
     let mut edge = [0u32; 64];
+    let mut above = [0u32; 64];
     let mut u = [0u32; 64];
-    graph::check(n, a, b, lengths, true, &mut tree, &mut edge);
-    best_answer(n, a, b, lengths, mu, nu, &mut tree, &mut edge, &mut u)
+    graph::check(n, a, b, lengths, true, &mut parents, &mut edge);
+    let tree = best_answer(
+        n,
+        a,
+        b,
+        lengths,
+        mu,
+        nu,
+        &mut parents,
+        &mut edge,
+        &mut above,
+        &mut u,
+    );
+    cost_of(tree, &above, mu, nu)
 }

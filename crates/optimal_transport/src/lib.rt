@@ -1,12 +1,14 @@
 // The best call and the judging of a given tree.
 ghost use Rattle.graph.specs.Graph.{graph};
-ghost use Rattle.spanning_tree.specs.Evaluate.{given};
+ghost use Rattle.spanning_tree.specs.Given.{given};
 ghost use Rattle.optimal_transport.specs.Solve.{Solved};
 ghost use Rattle.optimal_transport.specs.Judge.{Judged};
 
 mod answer;
 
-use spanning_tree::evaluation;
+use spanning_tree::given;
+use spanning_tree::tree::Tree;
+use tree_evaluation::evaluate_tree;
 
 // 0 or a refusal number, with the least cost and the moves of the plan
 pub struct Solution {
@@ -37,11 +39,13 @@ pub fn solve(
         (now (parents .entry)) (now (potential .entry)) (now (plan .entry)) (r .refusal) (r .cost) (r .moves)
         (now (parents .exit)) (now (potential .exit)) (now (plan .exit)) ⌝ }
 {
-    let mut tree = [0u32; 64];
+    let mut first = [0u32; 64];
     let mut edge = [0u32; 64];
+    let mut above = [0u32; 64];
     let mut u = [0u32; 64];
-    let room = evaluation::has_room(n, parents.len(), potential.len(), plan.len());
-    let k = answer::solve_refusal(n, a, b, lengths, mu, nu, room, &mut tree, &mut edge);
+    let mut imbalance = [0i32; 64];
+    let room = given::has_room(n, parents.len(), potential.len(), plan.len());
+    let k = answer::solve_refusal(n, a, b, lengths, mu, nu, room, &mut first, &mut edge);
     if k != 0 {
         return Solution {
             refusal: k,
@@ -49,14 +53,25 @@ pub fn solve(
             moves: 0,
         };
     }
-    let cost = answer::best_answer(n, a, b, lengths, mu, nu, &mut tree, &mut edge, &mut u);
-    answer::write_parents(n, &tree, parents);
+    let tree = answer::best_answer(
+        n,
+        a,
+        b,
+        lengths,
+        mu,
+        nu,
+        &mut first,
+        &mut edge,
+        &mut above,
+        &mut u,
+    );
+    let value = evaluate_tree(tree, &above, mu, nu, &mut imbalance, plan);
+    answer::write_parents(tree, parents);
     answer::write_potential(n, &u, potential);
-    let moves = evaluation::tree_plan(n, 0, parents, mu, nu, plan);
     Solution {
         refusal: 0,
-        cost: cost,
-        moves: moves,
+        cost: value.cost,
+        moves: value.moves,
     }
 }
 
@@ -75,14 +90,15 @@ pub fn is_optimal(
         (given (now (mu .entry)) (now (nu .entry)) root (now (parents .entry))) (r .refusal) (r .optimal) ⌝ }
 {
     let mut above = [0u32; 64];
-    let k = evaluation::given_refusal(n, a, b, lengths, mu, nu, root, parents, true, &mut above);
+    let k = given::given_refusal(n, a, b, lengths, mu, nu, root, parents, true, &mut above);
     if k != 0 {
         return Judgment {
             refusal: k,
             optimal: 0,
         };
     }
-    let cost = answer::given_cost(n, root, parents, &above, mu, nu);
+    let tree = Tree::new(n, root, parents);
+    let cost = answer::cost_of(tree, &above, mu, nu);
     let least = answer::least_cost(n, a, b, lengths, mu, nu);
     if cost == least {
         return Judgment {

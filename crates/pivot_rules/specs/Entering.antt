@@ -9,7 +9,7 @@ use lib.ListN.{length}
 use borrow.Author.Count.{below-more}
 use Rattle.arithmetic.specs.Product.{gap}
 use Rattle.arithmetic.specs.Table.{at}
-use Rattle.tree_checks.specs.Walk.{Filled}
+use Rattle.tree_walks.specs.Walk.{Filled}
 
 -- by how much U changes along edge e beyond its length
 abbrev pub excess : List ℕ → List ℕ → List ℕ → List ℕ → ℕ → ℕ

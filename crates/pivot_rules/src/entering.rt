@@ -5,7 +5,7 @@ ghost use Prim.Native.Nat.{ℕ, _+_, _-_, _*_, _^_, _≤_, _<_};
 ghost use lib.ListN.{length};
 ghost use Rattle.arithmetic.specs.Product.{gap};
 ghost use Rattle.arithmetic.specs.Table.{at};
-ghost use Rattle.tree_checks.specs.Walk.{Filled};
+ghost use Rattle.tree_walks.specs.Walk.{Filled};
 ghost use Rattle.pivot_rules.specs.Entering.{heightOf, reachOf, raised, Reaches, CanReach, CanRise, CanScan, Tallest, CanEnter, Entering};
 
 // A potential of 1, in the fine measure of heights.
@@ -20,12 +20,12 @@ const LEVEL: u64 = 1 << 52;
 // Flows make up less, and a violation makes up more.
 const HALF: u64 = 1 << 35;
 
-// What an edge of this length leaves of the level.
-fn reach_of(length: u32) -> u64
-    requires { ⌜ length ≤ 65535 ⌝ }
-    ensures { λ r. ⌜ r ≡ 2 ^ 52 - 2 ^ 36 * length ⌝ }
+// What an edge of length `long` leaves of the level.
+fn reach_of(long: u32) -> u64
+    requires { ⌜ long ≤ 65535 ⌝ }
+    ensures { λ r. ⌜ r ≡ 2 ^ 52 - 2 ^ 36 * long ⌝ }
 {
-    LEVEL - UNIT * length as u64
+    LEVEL - UNIT * long as u64
 }
 
 // The reach of every edge.

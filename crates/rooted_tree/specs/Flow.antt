@@ -209,38 +209,6 @@ module _ {n r : ℕ} {p : ℕ → ℕ} (t : Rooted n r p) (l m v : ℕ → ℕ) 
       either x true c true f =
           case≡ x r (λ e. rw (e, eqb-self r) (omega arith)) (λ d. rw (f d refl refl) (omega arith))
 
--- ---- the cost depends on the edges alone
-
--- x and y are joined by an edge of the tree, of length d
-abbrev pub TreeEdge : ℕ → (ℕ → ℕ) → (ℕ → ℕ) → (x y d : ℕ) → Type 0
-TreeEdge r p l x y d = ((p x ≡ y) × ((x ≡ r → ⊥) × (d ≡ l x))) ⊎ ((p y ≡ x) × ((y ≡ r → ⊥) × (d ≡ l y)))
-
 -- who agrees is within the length
 pub agrees-near : (u w d a b : ℕ) → Agrees u w d a b → (u ≤ w + d) × (w ≤ u + d)
 agrees-near u w d a b = ⊎-elim (λ h. (omega arith, omega arith)) (λ h. (omega arith, omega arith))
-
-module _ {n r s : ℕ} {p q : ℕ → ℕ} (t : Rooted n r p) (w : Rooted n s q) (l k m v : ℕ → ℕ) (same : sum n m ≡ sum n v) where
-  -- a tree with edges of p alone costs no less than p
-  edges-within : ((x : ℕ) → x < n → (x ≡ s → ⊥) → TreeEdge r p l x (q x) (k x)) → flowCost n r p l m v ≤ flowCost n s q k m v
-  edges-within edge =
-      omega (
-        arith,
-        tree-strong t U l m v same (height-agrees t l m v),
-        tree-weak w U k m v same (λ x h d. ⊎-elim
-            (λ e. rw (← (e .0), e .1 .1) (near x h (e .1 .0)))
-            (λ e.
-            let z : (U (q x) ≤ U x + k x) × (U x ≤ U (q x) + k x) = rw (e .1 .1) (rw (e .0) at (near (q x) (w .into x h) (e .1 .0))) in
-            (z .1, z .0))
-            (edge x h d)),
-      )
-    where
-      U : ℕ → ℕ
-      U = height n r p l m v
-
-      near : (x : ℕ) → x < n → (x ≡ r → ⊥) → (U x ≤ U (p x) + l x) × (U (p x) ≤ U x + l x)
-      near x h d = agrees-near _ _ _ _ _ (height-agrees t l m v x h d)
-
-module _ {n r s : ℕ} {p q : ℕ → ℕ} (t : Rooted n r p) (w : Rooted n s q) (l k m v : ℕ → ℕ) (same : sum n m ≡ sum n v) where
-  pub same-edges-same-cost : ((x : ℕ) → x < n → (x ≡ s → ⊥) → TreeEdge r p l x (q x) (k x))
-      → ((x : ℕ) → x < n → (x ≡ r → ⊥) → TreeEdge s q k x (p x) (l x)) → flowCost n r p l m v ≡ flowCost n s q k m v
-  same-edges-same-cost there back = omega (arith, edges-within t w l k m v same there, edges-within w t k l m v same back)

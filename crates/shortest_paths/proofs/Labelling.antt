@@ -19,7 +19,7 @@ use Rattle.graph.specs.EdgeLaws.{joins-ends, ends-joins, edge-up, edge-most, ed
 use Rattle.graph.specs.FirstTree.{FirstTree}
 use Rattle.graph.specs.TreeOfRank.{tree-of-rank}
 use Rattle.tree_checks.specs.TreeTests.{spanning-rooted}
-use Rattle.tree_checks.specs.Walk.{Filled, filled-none, filled-more}
+use Rattle.tree_walks.specs.Walk.{Filled, filled-none, filled-more}
 use Rattle.shortest_paths.specs.Weight.{weightOf, Within}
 use Rattle.shortest_paths.specs.Labels.{Hangs, Labelled, CanHang, Relaxed, Lowered, Lowers}
 use Rattle.shortest_paths.specs.ShortestPathTree.{CanShorten, ShortestPathTree}

@@ -7,20 +7,20 @@ ghost use Rattle.arithmetic.specs.Table.{at};
 ghost use Rattle.rooted_tree.specs.Chain.{depth};
 ghost use Rattle.rooted_tree.specs.Rooted.{Rooted};
 ghost use Rattle.graph.specs.Graph.{graph};
-ghost use Rattle.tree_checks.specs.Walk.{Filled};
+ghost use Rattle.tree_walks.specs.Walk.{Filled};
 ghost use Rattle.shortest_paths.specs.Weight.{weightOf};
 ghost use Rattle.shortest_paths.specs.Labels.{Labelled, CanHang, Relaxed, Lowers};
-use tree_checks::walk;
+use tree_walks::walk;
 
 // More than any edge weighs.
 const FAR: u32 = 1 << 22;
 
-// What an edge of this length weighs.
-pub fn weight(length: u32) -> u32
-    requires { ⌜ length ≤ 65535 ⌝ }
-    ensures { λ r. ⌜ r ≡ weightOf length ⌝ }
+// What an edge of length `long` weighs.
+pub fn weight(long: u32) -> u32
+    requires { ⌜ long ≤ 65535 ⌝ }
+    ensures { λ r. ⌜ r ≡ weightOf long ⌝ }
 {
-    64 * length + 1
+    64 * long + 1
 }
 
 // Labels that a tree's paths do not exceed.

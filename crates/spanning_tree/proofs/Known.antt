@@ -1,23 +1,24 @@
 -- What a tree by value gives of a vertex, by whether it is known.
 use mathlib.Core.Path.{_≡_, refl, sym, ap, _∙_}
-use mathlib.Core.Bool.{true, false, _&&_}
-use mathlib.Core.List.{List, [], _++_, append-nil}
-use Prim.Native.Nat.{ℕ, _≤_, _<_}
+use mathlib.Core.Bool.{Bool, true, false, _&&_}
+use mathlib.Core.List.{List, [], _∷_, _++_}
+use Prim.Native.Nat.{ℕ, zero, suc, _+_, _-_, min, _≤_, _<_}
 use native.Mathlib.Omega.{arith}
-use lib.Dec.{ltb, leb}
+use lib.Dec.{eqb, ltb, leb}
 use lib.ListN.{length, drop, List·getD-eq-default}
-use borrow.Author.Tests.{lt-ltb, le-ltb, le-leb, ltb-true, leb-true}
-use Rattle.arithmetic.specs.Bools.{is-false, and-l, and-r}
+use borrow.Author.Tests.{lt-ltb, le-ltb, le-leb, eqb-true, ltb-true, leb-true}
+use Rattle.arithmetic.specs.Bools.{case<, is-false, and-l, and-r}
 use Rattle.arithmetic.specs.Sum.{pick, pick-zero}
-use Rattle.arithmetic.specs.Table.{at, tab}
+use Rattle.arithmetic.specs.Table.{at, tab, tab-rest}
 use Rattle.arithmetic.specs.Mask.{mask}
 use Rattle.rooted_tree.specs.Chain.{below, depth}
 use Rattle.rooted_tree.specs.Rooted.{Rooted}
 use Rattle.graph.specs.Checks.{verticesOk}
 use Rattle.tree_checks.specs.Checks.{parentsOk, chainsOk}
+use Rattle.spanning_tree.specs.TreeValue.{parentsHeld}
 use Rattle.spanning_tree.specs.Tree.{known, depthOf, parentOf, subtreeOf}
 use Rattle.tree_checks.specs.TreeTests.{tests-rooted}
-use Rattle.tree_checks.specs.Walk.{Filled}
+use Rattle.tree_walks.specs.Walk.{Filled}
 
 pub record Known (n r : ℕ) (ps : List ℕ) (v : ℕ) : Type 0 where
   pub vertex : v < n
@@ -75,16 +76,31 @@ module _ (n r : ℕ) (ps : List ℕ) (v : ℕ) where
 
 -- ---- the parents that a tree holds
 
-module _ (n : ℕ) (ps : List ℕ) (x : ℕ) where
-  pub listed-past : n ≤ x → 0 ≡ pick (ltb x n) (at ps x)
-  listed-past h = rw (le-ltb x n h)
+-- a list has zeros alone
+abbrev pub zeroed : List ℕ → Bool
+zeroed [] = true
+zeroed (x ∷ l) = eqb x 0 && zeroed l
 
-  pub listed-none : length ps ≤ x → 0 ≡ pick (ltb x n) (at ps x)
-  listed-none h = sym (ap (pick (ltb x n)) (List·getD-eq-default ps 0 h) ∙ pick-zero (ltb x n))
+zeros-at : (l : List ℕ) → zeroed l ≡ true → (y : ℕ) → at l y ≡ 0
+zeros-at [] h y = refl
+zeros-at (x ∷ l) h zero = eqb-true x 0 (and-l (eqb x 0) (zeroed l) h)
+zeros-at (x ∷ l) h (suc y) = zeros-at l (and-r (eqb x 0) (zeroed l) h) y
 
-  pub listed-here : x < n → at ps x ≡ pick (ltb x n) (at ps x)
-  listed-here h = rw (lt-ltb x n h)
+-- a parent of the list is held
+pub listed-here : (n : ℕ) (ps : List ℕ) (x : ℕ) → x < n → at ps x ≡ pick (ltb x n) (at ps x)
+listed-here n ps x h = rw (lt-ltb x n h)
 
--- all places are filled
-pub held-all : (f : ℕ → ℕ) (zeros held : List ℕ) (x : ℕ) → x ≡ 64 → drop 64 zeros ≡ [] → held ≡ tab x f ++ drop x zeros → held ≡ tab 64 f
-held-all f zeros held x e d h = rw (e, d, append-nil) at h
+-- of a list of 64 zeros the first `count` places are the list's, and the others stay
+pub held-all : (n count x : ℕ) (ps zeros held : List ℕ) → count ≡ min (min n 64) (length ps) → x ≡ count → length zeros ≡ 64
+    → zeroed zeros ≡ true → held ≡ tab x (λ y. pick (ltb y n) (at ps y)) ++ drop x zeros → held ≡ parentsHeld n ps
+held-all n count x ps zeros held c e z none h =
+    let all : x + (64 - x) ≡ 64 = omega arith in
+    h ∙ tab-rest (λ y. pick (ltb y n) (at ps y)) zeros x (64 - x) (omega arith) (λ y l k. zeros-at zeros none y ∙ past y l (omega arith))
+    ∙ ap (λ (k : ℕ). tab k (λ y. pick (ltb y n) (at ps y))) all
+  where
+    -- a place from `count` on is past the vertices, past the tree or past the list
+    past : (y : ℕ) → x ≤ y → y < 64 → 0 ≡ pick (ltb y n) (at ps y)
+    past y l k =
+        case< y n
+        (λ h. sym (ap (pick (ltb y n)) (List·getD-eq-default ps 0 (omega arith)) ∙ pick-zero (ltb y n)))
+        (λ h. rw (le-ltb y n h))

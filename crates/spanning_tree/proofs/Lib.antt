@@ -1,5 +1,2 @@
-pub mod AddingUp
-pub mod Climbing
-pub mod Evaluating
 pub mod Known
-pub mod Signed
+pub mod Tables

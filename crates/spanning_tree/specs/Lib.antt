@@ -1,6 +1,4 @@
 pub mod Tree
-pub mod Weigh
-pub mod Evaluate
 pub mod TreeValue
-pub mod WeighLaws
-pub mod EvaluateLaws
+pub mod Given
+pub mod GivenLaws

@@ -1,12 +1,11 @@
 // A tree by value: n, its root and the parents of its vertices.
 ghost use mathlib.Core.Path.{_≡_};
-ghost use lib.Dec.{ltb};
-ghost use Rattle.arithmetic.specs.Sum.{pick};
-ghost use Rattle.arithmetic.specs.Table.{at};
+ghost use Prim.Native.Nat.{min};
 ghost use Rattle.spanning_tree.specs.Tree.{known, depthOf, parentOf, subtreeOf};
 ghost use Rattle.spanning_tree.specs.TreeValue.{parentsHeld};
+use tree_checks::chains;
 use tree_checks::checks;
-use tree_checks::walk;
+use tree_walks::walk;
 
 pub struct Tree {
     pub n: usize,
@@ -14,17 +13,20 @@ pub struct Tree {
     pub parents: [u32; 64],
 }
 
-// the parent of x in a list of parents of n vertices; 0 for any other number
-fn listed(n: usize, parents: &[u32], x: usize) -> u32
-    ensures { λ r. ⌜ r ≡ pick (ltb x n) (at (now (parents .entry)) x) ⌝ }
+// how many parents of a list of that length a tree of n vertices holds
+fn held_count(n: usize, listed: usize) -> usize
+    ensures { λ r. ⌜ r ≡ min (min n 64) listed ⌝ }
 {
-    if x >= n {
-        return 0;
+    if n < 64 {
+        if n < listed {
+            return n;
+        }
+        return listed;
     }
-    if x >= parents.len() {
-        return 0;
+    if 64 < listed {
+        return 64;
     }
-    parents[x]
+    listed
 }
 
 impl Tree {
@@ -33,9 +35,10 @@ impl Tree {
         ensures { λ t. ⌜ (t .n ≡ n) × ((t .root ≡ root) × (t .parents ≡ parentsHeld n (now (parents .entry)))) ⌝ }
     {
         let mut held = [0u32; 64];
+        let count = held_count(n, parents.len());
         let mut x: usize = 0;
-        while x < 64 {
-            held[x] = listed(n, parents, x);
+        while x < count {
+            held[x] = parents[x];
             x += 1;
         }
         Tree {
@@ -61,7 +64,7 @@ impl Tree {
         if !checks::parents_ok(n, root, &parents) {
             return false;
         }
-        walk::chains_reach(n, root, &parents)
+        chains::chains_reach(n, root, &parents)
     }
 
     // the number of edges from v up to the root

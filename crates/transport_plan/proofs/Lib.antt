@@ -4,3 +4,4 @@ pub mod PlanLayers
 pub mod PlanStart
 pub mod PlanTables
 pub mod Words
+pub mod FilledPlan

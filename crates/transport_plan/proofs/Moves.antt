@@ -8,11 +8,11 @@ use lib.Dec.{eqb, ltb}
 use borrow.Author.Tests.{lt-ltb, le-ltb, ltb-true}
 use Rattle.arithmetic.specs.Bools.{case, and-l, and-r}
 use Rattle.arithmetic.specs.Sum.{pick, pick-le, sum, sum-ext}
+use Rattle.vertex_set.specs.LowestLaws.{lowest-ext}
 use Rattle.rooted_tree.specs.Chain.{depth}
 use Rattle.transport_plan.specs.Plan.{Making, changed, sends, sender, receiver, moved, settled, layer, layers}
 use Rattle.transport_plan.specs.PlanRun.{Move, send, found, move-or-empty, count, count-le, count-falls, settled-still}
 use Rattle.transport_plan.specs.PlanSteps.{Same, Ready}
-use Rattle.transport_plan.proofs.Words.{lowest-ext}
 
 -- ---- same makings stay the same
 

@@ -16,10 +16,12 @@ use Rattle.arithmetic.specs.Sum.{pick}
 use Rattle.arithmetic.specs.Table.{at, cell, cell-below}
 use Rattle.arithmetic.specs.Matrix.{filled-at, filled-self, filled-store}
 use Rattle.arithmetic.specs.Mask.{bit, mask, mask-ext, bit-mask, mask-bits, mask-take, mask-has}
-use Rattle.transport_plan.specs.Plan.{Making, changed, sends, lowest, sender, receiver, settled}
+use Rattle.vertex_set.specs.Lowest.{lowest}
+use Rattle.vertex_set.specs.LowestLaws.{lowest-ext, empty-lowest}
+use Rattle.vertex_set.specs.Words.{and-masks}
+use Rattle.transport_plan.specs.Plan.{Making, changed, sends, sender, receiver, settled}
 use Rattle.transport_plan.specs.PlanRun.{Move, send, found, count, count-falls}
 use Rattle.transport_plan.specs.PlanSteps.{making, Same, positive, Held, AsLent, Holds}
-use Rattle.transport_plan.proofs.Words.{and-masks, lowest-ext, empty-lowest}
 use Rattle.transport_plan.proofs.Moves.{same-refl, same-trans, ready-same, settled-same, ready-move, count-same, lowest-move, moved-sends, settled-moved, settled-done}
 
 -- ---- stores

@@ -1,8 +1,9 @@
 -- Document 01, "Plan, in an order that this text sets", and its moves.
 use Prim.Native.Nat.{ℕ, zero, suc, _+_, _-_, min}
-use mathlib.Core.Bool.{Bool, true, false, not, cond, _&&_}
+use mathlib.Core.Bool.{Bool, not, cond, _&&_}
 use lib.Dec.{eqb, ltb}
 use Rattle.arithmetic.specs.Sum.{sum, pick}
+use Rattle.vertex_set.specs.Lowest.{lowest}
 use Rattle.rooted_tree.specs.Chain.{below, depth}
 
 -- a plan that is being made: what i sends to j, and the residue, what remains of ξ: the surplus where it is positive, the deficit where
@@ -31,11 +32,6 @@ sends s i j v = record {
   surplus = changed (s .surplus) i (s .surplus i - v);
   deficit = changed (s .deficit) j (s .deficit j - v);
 }
-
--- the lowest number from i on at which the test holds, or i + k if none of the k numbers is
-unfoldable pub lowest : (ℕ → Bool) → ℕ → ℕ → ℕ
-lowest f zero i = i
-lowest f (suc k) i = cond (f i) i (lowest f k (suc i))
 
 -- "the lowest-numbered with positive residue" among the vertices below w that b tells, and that with negative residue; n if none
 abbrev pub sender : ℕ → (ℕ → Bool) → Making → ℕ

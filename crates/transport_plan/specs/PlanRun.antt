@@ -8,27 +8,9 @@ use lib.Dec.{eqb, ltb}
 use borrow.Author.Tests.{ne-eqb, ltb-true, ltb-false}
 use Rattle.arithmetic.specs.Bools.{case, case≡, case≤, and-l, and-r, eqb-self}
 use Rattle.arithmetic.specs.Sum.{pick, pick-le, sum, sum-ext, sum-le, sum-lt, sum-one, sum-add, sum-pick, sum-only, sum-only', sum-ge, sum-zeros}
-use Rattle.transport_plan.specs.Plan.{Making, started, changed, sends, lowest, sender, receiver, moved, settled}
-
--- ---- the lowest number at which a test holds
-
-pub lowest-found : (f : ℕ → Bool) (k i : ℕ) → lowest f k i < i + k → f (lowest f k i) ≡ true
-unfolding lowest
-lowest-found f zero i h = absurd (omega arith)
-lowest-found f (suc k) i h =
-    case (f i)
-    (λ e. rw e e)
-    (λ e. let g : lowest f k (suc i) < i + suc k = rw e at h in rw e (lowest-found f k (suc i) (omega arith)))
-
-pub lowest-none : (f : ℕ → Bool) (k i : ℕ) → i + k ≤ lowest f k i → (x : ℕ) → i ≤ x → x < i + k → f x ≡ false
-unfolding lowest
-lowest-none f zero i h x a l = absurd (omega arith)
-lowest-none f (suc k) i h x a l =
-    case (f i)
-    (λ e. let g : i + suc k ≤ i = rw e at h in absurd (omega arith))
-    (λ e.
-    let g : i + suc k ≤ lowest f k (suc i) = rw e at h in
-    case≡ x i (λ q. rw q e) (λ d. lowest-none f k (suc i) (omega arith) x (omega arith) (omega arith)))
+use Rattle.vertex_set.specs.Lowest.{lowest}
+use Rattle.vertex_set.specs.LowestLaws.{lowest-found, lowest-none}
+use Rattle.transport_plan.specs.Plan.{Making, started, changed, sends, sender, receiver, moved, settled}
 
 -- ---- one move
 

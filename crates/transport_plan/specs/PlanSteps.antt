@@ -9,6 +9,7 @@ use Rattle.arithmetic.specs.Sum.{sum, pick}
 use Rattle.arithmetic.specs.Table.{at, cell}
 use Rattle.arithmetic.specs.Mask.{mask}
 use Rattle.rooted_tree.specs.Chain.{below, depth}
+use Rattle.tree_walks.specs.Walk.{Filled}
 use Rattle.transport_plan.specs.Plan.{Making}
 
 -- the tables of depths and subtree masks of the tree with root r and parents p
@@ -18,6 +19,17 @@ pub record Walked (n r : ℕ) (p : ℕ → ℕ) (depths masks : List ℕ) : Type
   pub long-masks : n ≤ length masks
   pub depths-are : (x : ℕ) → x < n → at depths x ≡ depth p r n x
   pub masks-are : (x : ℕ) → x < n → at masks x ≡ mask n (λ y. below p n y x)
+
+-- it is so of the tables that the walks up the tree fill
+pub walked : (n r : ℕ) (p : ℕ → ℕ) (d d' m m' : List ℕ) → n ≤ 64 → n ≤ length d' → n ≤ length m' → Filled n (depth p r n) d d'
+    → Filled n (λ x. mask n (λ y. below p n y x)) m m' → Walked n r p d' m'
+walked n r p d d' m m' few hd hm u v = record {
+  small = few;
+  long-depths = hd;
+  long-masks = hm;
+  depths-are = u .each;
+  masks-are = v .each;
+}
 
 -- two measures whose totals fit
 pub record Measures (n : ℕ) (mu nu : List ℕ) : Type 0 where

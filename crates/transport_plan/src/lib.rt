@@ -7,23 +7,16 @@ ghost use lib.ListN.{length, drop};
 ghost use Rattle.arithmetic.specs.Sum.{sum, pick};
 ghost use Rattle.arithmetic.specs.Table.{at, cell, tab, matrix};
 ghost use Rattle.arithmetic.specs.Mask.{bit, mask};
-ghost use Rattle.transport_plan.specs.Plan.{sends, lowest, settled, layer, layers, moves};
+ghost use Rattle.transport_plan.specs.Plan.{sends, settled, layer, layers, moves};
 ghost use Rattle.transport_plan.specs.Plan as Plan;
 ghost use Rattle.transport_plan.specs.PlanSteps.{Walked, Measures, making, positive, Held, Holds, StartedTo, positiveAt, moveAt};
+use spanning_tree::tree::Tree;
 
 // The smaller of two numbers.
 fn smaller(a: u32, b: u32) -> u32
     ensures { λ r. ⌜ r ≡ min a b ⌝ }
 {
     if a < b { a } else { b }
-}
-
-// The lowest vertex of a word that has one.
-pub fn lowest_vertex(n: usize, word: u64) -> usize
-    requires { ⌜ (n ≤ 64) × (word ≡ mask n (bit word)) × (word ≡ 0 → ⊥) ⌝ }
-    ensures { λ r. ⌜ (r ≡ lowest (bit word) n 0) × (r < n) ⌝ }
-{
-    u64::trailing_zeros(word) as usize
 }
 
 // The word, without vertex x if nothing is left there.
@@ -91,8 +84,8 @@ fn settle(
         if from == 0 || to == 0 {
             return;
         }
-        let i = lowest_vertex(n, from);
-        let j = lowest_vertex(n, to);
+        let i = vertex_set::lowest_vertex(n, from);
+        let j = vertex_set::lowest_vertex(n, to);
         send(n, i, j, senders, receivers, surplus, deficit, plan);
     }
 }
@@ -238,7 +231,7 @@ fn positive_word(n: usize, amounts: &[u32; 64]) -> u64
 }
 
 // Fills the first n * n places of plan with the plan of the tree.
-pub fn fill_plan(
+fn fill_plan(
     n: usize,
     root: usize,
     parents: &[u32],
@@ -294,7 +287,7 @@ fn count_row(n: usize, i: usize, plan: &[u32]) -> u32
 }
 
 // How many moves a plan has.
-pub fn count_moves(n: usize, plan: &[u32]) -> u32
+fn count_moves(n: usize, plan: &[u32]) -> u32
     requires { ⌜ (n ≤ 64) × (n * n ≤ length (now plan)) ⌝ }
     ensures { λ r. ⌜ r ≡ moves n (λ i j. cell n (now (plan .entry)) i j) ⌝ }
 {
@@ -303,4 +296,28 @@ pub fn count_moves(n: usize, plan: &[u32]) -> u32
         count += count_row(n, i, plan);
     }
     count
+}
+
+// The plan of a tree by value, with the depth of each vertex and the mask of its subtree: fills the first n * n places of plan, and counts its
+// moves.
+pub fn tree_plan(
+    tree: Tree,
+    depth: &[u32],
+    masks: &[u64],
+    mu: &[u64],
+    nu: &[u64],
+    plan: &mut [u32],
+) -> u32
+    requires { ⌜ Walked (tree .n) (tree .root) (at (tree .parents)) (now depth) (now masks) × (tree .n * tree .n ≤ length (now plan)) ⌝ }
+    requires measures { ⌜ Measures (tree .n) (now mu) (now nu) ⌝ }
+    ensures table { λ r. ⌜ now (plan .exit)
+        ≡ matrix (tree .n) (Plan.plan (tree .n) (tree .root) (at (tree .parents)) (at (now (mu .entry))) (at (now (nu .entry))))
+        ++ drop (tree .n * tree .n) (now (plan .entry)) ⌝ }
+    ensures count { λ r. ⌜ r
+        ≡ moves (tree .n) (Plan.plan (tree .n) (tree .root) (at (tree .parents)) (at (now (mu .entry))) (at (now (nu .entry)))) ⌝ }
+{
+    let n = tree.n;
+    let parents = tree.parents;
+    fill_plan(n, tree.root, &parents, depth, masks, mu, nu, plan);
+    count_moves(n, plan)
 }

@@ -18,7 +18,7 @@ use Rattle.graph.specs.Checks.{lengthOk, marked}
 use Rattle.graph.specs.Accepted.{lists-in}
 use Rattle.graph.specs.EdgeLaws.{edge-order}
 use Rattle.tree_checks.specs.Checks.{treeEdgesOk}
-use Rattle.tree_checks.specs.Walk.{Filled}
+use Rattle.tree_walks.specs.Walk.{Filled}
 use Rattle.tree_checks.specs.ParentEdges.{EdgesAccepted, hangs, Noted, NotedTo, Fresh, Lengths}
 
 all-ext : (m : ℕ) (f h : ℕ → Bool) → ((i : ℕ) → i < m → f i ≡ h i) → all m f ≡ all m h

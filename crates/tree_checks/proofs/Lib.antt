@@ -1,5 +1,4 @@
-pub mod Chains
+pub mod ChainWalk
 pub mod Edges
 pub mod Measures
 pub mod Refusals
-pub mod Walking

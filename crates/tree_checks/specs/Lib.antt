@@ -1,4 +1,4 @@
 pub mod Checks
 pub mod TreeTests
-pub mod Walk
+pub mod Chains
 pub mod ParentEdges

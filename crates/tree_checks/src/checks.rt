@@ -10,9 +10,9 @@ ghost use Rattle.arithmetic.specs.Table.{at};
 ghost use Rattle.graph.specs.Graph.{graph};
 ghost use Rattle.graph.specs.Checks.{marked};
 ghost use Rattle.tree_checks.specs.Checks.{parentsOk, treeEdgesOk, measureRefusal, treeRefusal};
-ghost use Rattle.tree_checks.specs.Walk.{Filled};
+ghost use Rattle.tree_walks.specs.Walk.{Filled};
 ghost use Rattle.tree_checks.specs.ParentEdges.{EdgesAccepted, Noted, Fresh, NotedTo, Lengths};
-use crate::walk;
+use crate::chains;
 
 // the total of the first n amounts, or 16,777,217 where it is more than 16,777,216
 fn capped_total(n: usize, amounts: &[u64]) -> u64
@@ -190,7 +190,7 @@ pub fn tree_refusal(
     if !tree_edges_ok(n, a, b, lengths, root, parents, above) {
         return 9;
     }
-    if !walk::chains_reach(n, root, parents) {
+    if !chains::chains_reach(n, root, parents) {
         return 10;
     }
     0

@@ -1,3 +1,3 @@
-// Checks 6 to 10, of the paintings and of a tree, and the walks up a tree.
+// Checks 6 to 10, of the paintings and of a tree.
+pub mod chains;
 pub mod checks;
-pub mod walk;

@@ -1,4 +1,3 @@
-pub mod Words
 pub mod Pivot
 pub mod PathReversal
 pub mod PivotCost
@@ -6,5 +5,6 @@ pub mod Basis
 pub mod PathWalk
 pub mod PivotTables
 pub mod PivotTotals
+pub mod SubtreeMasks
 pub mod PivotPotential
 pub mod PivotBasis

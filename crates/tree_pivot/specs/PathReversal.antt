@@ -76,6 +76,7 @@ module _ {n r : ℕ} {p : ℕ → ℕ} {a b d : ℕ} {q : ℕ → ℕ} (v : Pivo
 
 -- ---- the same over a list of parents, of which the first n count
 
+-- the subtree of c, which is not the root, can be hung by its vertex a on b, a vertex out of it
 pub record CanPivot (n : ℕ) (l : List ℕ) (r a b c : ℕ) : Type 0 where
   pub size : n ≤ length l
   pub tree : Rooted n r (at l)
@@ -86,17 +87,16 @@ pub record CanPivot (n : ℕ) (l : List ℕ) (r a b c : ℕ) : Type 0 where
   pub a-in : below (at l) n a c ≡ true
   pub b-out : below (at l) n b c ≡ false
 
--- the list l has become k: the subtree of d, which is below c, is hung by a on b
-pub record Pivoted (n : ℕ) (l : List ℕ) (r a b c : ℕ) (k : List ℕ) (d : ℕ) : Type 0 where
+-- the list l has become k: the subtree of c is hung by a on b, and the places from n on are as they were
+pub record Pivoted (n : ℕ) (l : List ℕ) (r a b c : ℕ) (k : List ℕ) : Type 0 where
   pub size : length k ≡ length l
   pub rest : (x : ℕ) → n ≤ x → at k x ≡ at l x
-  pub d-in : below (at l) n d c ≡ true
-  pub pivot : Pivot n r (at l) a b d (at k)
+  pub pivot : Pivot n r (at l) a b c (at k)
 
 -- the list l has become k; `up` is the next vertex to get a new parent, and `last` is to be it
 pub data Reversing (n : ℕ) (l : List ℕ) (r a b c : ℕ) (k : List ℕ) (up last : ℕ) : Type 0 where
   begun : k ≡ l → up ≡ a → last ≡ b → Reversing n l r a b c k up last
-  going : Pivoted n l r a b c k last → up ≡ at l last → Reversing n l r a b c k up last
+  going : Pivoted n l r a b last k → below (at l) n last c ≡ true → up ≡ at l last → Reversing n l r a b c k up last
 
 module _ {n : ℕ} {l : List ℕ} {r a b c : ℕ} (can : CanPivot n l r a b c) where
   pub reversing-none : Reversing n l r a b c l a b
@@ -105,23 +105,23 @@ module _ {n : ℕ} {l : List ℕ} {r a b c : ℕ} (can : CanPivot n l r a b c) w
   module _ (k : List ℕ) (up last : ℕ) where
     pub reversing-size : Reversing n l r a b c k up last → length k ≡ length l
     reversing-size (begun e f g) = ap length e
-    reversing-size (going w f) = w .size
+    reversing-size (going w i f) = w .size
 
     pub reversing-low : Reversing n l r a b c k up last → up < n
     reversing-low (begun e f g) = rw f (can .a-low)
-    reversing-low (going w f) = rw f (can .tree .into last (w .pivot .c-low))
+    reversing-low (going w i f) = rw f (can .tree .into last (w .pivot .c-low))
 
     pub reversing-last : Reversing n l r a b c k up last → last < n
     reversing-last (begun e f g) = rw g (can .b-low)
-    reversing-last (going w f) = w .pivot .c-low
+    reversing-last (going w i f) = w .pivot .c-low
 
     reversing-rest : Reversing n l r a b c k up last → (x : ℕ) → n ≤ x → at k x ≡ at l x
     reversing-rest (begun e f g) x h = cc
-    reversing-rest (going w f) x h = w .rest x h
+    reversing-rest (going w i f) x h = w .rest x h
 
     reversing-kept : Reversing n l r a b c k up last → at k up ≡ at l up
     reversing-kept (begun e f g) = cc
-    reversing-kept (going w f) =
+    reversing-kept (going w i f) =
         rw f (w .pivot .out (at l last) (can .tree .into last (w .pivot .c-low)) (above-out (w .pivot)))
 
     pub reversing-next : Reversing n l r a b c k up last → at k up < n
@@ -129,7 +129,7 @@ module _ {n : ℕ} {l : List ℕ} {r a b c : ℕ} (can : CanPivot n l r a b c) w
 
     reversing-in : Reversing n l r a b c k up last → (last ≡ c → ⊥) → below (at l) n up c ≡ true
     reversing-in (begun e f g) d = rw f (can .a-in)
-    reversing-in (going w f) d = rw f (down-b (can .tree) last c (w .pivot .c-low) (w .d-in) d)
+    reversing-in (going w i f) d = rw f (down-b (can .tree) last c (w .pivot .c-low) i d)
 
     -- the depth of `up` falls
     pub reversing-less : Reversing n l r a b c k up last → (last ≡ c → ⊥) → depth (at l) r n (at k up) < depth (at l) r n up
@@ -149,8 +149,8 @@ module _ {n : ℕ} {l : List ℕ} {r a b c : ℕ} (can : CanPivot n l r a b c) w
         rw (e, f, g)
         (start (can .tree) a b (at (set l a b)) (can .a-low) (can .b-low) (no-root a (can .a-in)) (b-not a (can .a-in))
         (getD-set-same l a b 0 (omega (arith, can .size, can .a-low))) (λ x h. getD-set-other l a x b 0 h))
-    next (going w f) d =
-        let h : below (at l) n (at l last) c ≡ true = rw f at (reversing-in (going w f) d) in
+    next (going w i f) d =
+        let h : below (at l) n (at l last) c ≡ true = rw f at (reversing-in (going w i f) d) in
         rw f
         (step (w .pivot) (at (set k (at l last) last)) (no-root (at l last) h) (b-not (at l last) h)
         (getD-set-same k (at l last) last 0 (omega (arith, w .size, can .size, can .tree .into last (w .pivot .c-low)))) (λ x i. getD-set-other k (at l last) x last 0 i))
@@ -161,12 +161,12 @@ module _ {n : ℕ} {l : List ℕ} {r a b c : ℕ} (can : CanPivot n l r a b c) w
         (record {
           size = length-set k up last ∙ reversing-size g;
           rest = λ x h. getD-set-other k up x last 0 (omega (arith, reversing-low g)) ∙ reversing-rest g x h;
-          d-in = reversing-in g d;
           pivot = next g d;
         })
+        (reversing-in g d)
         (reversing-kept g)
 
-    pub reversing-end : Reversing n l r a b c k up last → last ≡ c → Pivoted n l r a b c k c
+    pub reversing-end : Reversing n l r a b c k up last → last ≡ c → Pivoted n l r a b c k
     reversing-end (begun e f g) h =
         absurd (apart (λ u. below (at l) n u c) (refl-b (can .tree) c (can .c-low)) (can .b-out) (cc))
-    reversing-end (going w f) h = rw h at w
+    reversing-end (going w i f) h = rw h at w

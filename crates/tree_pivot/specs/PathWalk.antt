@@ -13,8 +13,8 @@ use Rattle.rooted_tree.specs.Chain.{below, depth}
 use Rattle.rooted_tree.specs.Rooted.{Rooted, at-step, refl-b, parent-b, down-b, trans-b, root-b, comparable, antisym, parent-out, depth-step, depth-strict, depth-mono}
 use Rattle.tree_pivot.specs.Pivot.{Toward}
 
-pub record CanWalk (n : ℕ) (p : ℕ → ℕ) (from stop size : ℕ) : Type 0 where
-  pub tree : Rooted n 0 p
+pub record CanWalk (n r : ℕ) (p : ℕ → ℕ) (from stop size : ℕ) : Type 0 where
+  pub tree : Rooted n r p
   pub from-low : from < n
   pub stop-low : stop < n
   pub on-way : below p n from stop ≡ true
@@ -44,7 +44,7 @@ pub record Handed (n : ℕ) (p : ℕ → ℕ) (from : ℕ) (t : List ℕ) (first
   pub begins : x ≡ from → e ≡ first
   pub passes : (z : ℕ) → Toward n p from x z → e ≡ at t z
 
-module _ {n : ℕ} {p : ℕ → ℕ} (t : Rooted n 0 p) where
+module _ {n r : ℕ} {p : ℕ → ℕ} (t : Rooted n r p) where
   -- a vertex has one child towards a
   toward-unique : (a x y z : ℕ) → a < n → Toward n p a x y → Toward n p a x z → y ≡ z
   toward-unique a x y z la v w =
@@ -52,10 +52,10 @@ module _ {n : ℕ} {p : ℕ → ℕ} (t : Rooted n 0 p) where
       (λ h. omega (arith, depth-strict t z y (v .low) h d, same))
       (λ h. omega (arith, depth-strict t y z (w .low) (comparable t y z a la (v .from) (w .from) h) (λ e. d (sym e)), same))))
     where
-      inner : (u : ℕ) → Toward n p a x u → u ≡ 0 → ⊥
+      inner : (u : ℕ) → Toward n p a x u → u ≡ r → ⊥
       inner u k e = k .other (e ∙ sym (t .stay) ∙ rw e at (k .over))
 
-      same : depth p 0 n y ≡ depth p 0 n z
+      same : depth p r n y ≡ depth p r n z
       same = rw (depth-step t y (v .low) (inner y v), depth-step t z (w .low) (inner z w), v .over, w .over)
 
   hand-none : (a first : ℕ) (s : List ℕ) → a < n → Handed n p a s first a first
@@ -64,15 +64,15 @@ module _ {n : ℕ} {p : ℕ → ℕ} (t : Rooted n 0 p) where
     passes = λ z w. absurd (w .other (antisym t a z la (w .low) (rw (w .over) at (parent-b t z (w .low))) (w .from)));
   }
 
-  module _ (a y : ℕ) (la : a < n) (ly : y < n) (on : below p n a y ≡ true) (inner : y ≡ 0 → ⊥) where
+  module _ (a y : ℕ) (la : a < n) (ly : y < n) (on : below p n a y ≡ true) (inner : y ≡ r → ⊥) where
     hand-more : (first : ℕ) (s : List ℕ) → Handed n p a s first (p y) (at s y)
     hand-more first s = record {
-      begins = λ e. absurd (omega (arith, depth-step t y ly inner, depth-mono t y a la on, ap (depth p 0 n) e));
+      begins = λ e. absurd (omega (arith, depth-step t y ly inner, depth-mono t y a la on, ap (depth p r n) e));
       passes = λ z w. rw (toward-unique a (p y) z y la w own);
     }
       where
         own : Toward n p a (p y) y
-        own = record { low = ly; from = on; over = refl; other = λ e. omega (arith, depth-step t y ly inner, ap (depth p 0 n) e) }
+        own = record { low = ly; from = on; over = refl; other = λ e. omega (arith, depth-step t y ly inner, ap (depth p r n) e) }
 
 -- ---- the walk
 
@@ -86,7 +86,7 @@ not-both false b e = refl
 pub met-not : (a b : Bool) → a && not b ≡ true → b ≡ false
 met-not a b h = not-true b (and-r a (not b) h)
 
-module _ {n : ℕ} {p : ℕ → ℕ} {from stop size : ℕ} (can : CanWalk n p from stop size) where
+module _ {n r : ℕ} {p : ℕ → ℕ} {from stop size : ℕ} (can : CanWalk n r p from stop size) where
   pub walk-none : (D : ℕ → ℕ → Type 0) (t : List ℕ) → Walking n p from stop D t t from
   walk-none D t = record {
     low = can .from-low;
@@ -111,7 +111,7 @@ module _ {n : ℕ} {p : ℕ → ℕ} {from stop size : ℕ} (can : CanWalk n p f
     walk-end e = rw e at (w .stored)
 
     module _ (go : y ≡ stop → ⊥) where
-      walk-inner : y ≡ 0 → ⊥
+      walk-inner : y ≡ r → ⊥
       walk-inner e = go (e ∙ root-b (can .tree) stop (rw e at (w .ahead)))
 
       -- y is met before `stop`
@@ -120,7 +120,7 @@ module _ {n : ℕ} {p : ℕ → ℕ} {from stop size : ℕ} (can : CanWalk n p f
           and-not _ _ (w .begun)
           (is-false _ (λ h. go (antisym (can .tree) stop y (can .stop-low) (w .low) (w .ahead) h)))
 
-      pub walk-less : depth p 0 n (p y) < depth p 0 n y
+      pub walk-less : depth p r n (p y) < depth p r n y
       walk-less = omega (arith, depth-step (can .tree) y (w .low) walk-inner)
 
       met-y : passed n p from (p y) y ≡ true

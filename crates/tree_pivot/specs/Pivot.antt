@@ -18,6 +18,8 @@ pub record Toward (n : ℕ) (p : ℕ → ℕ) (a x z : ℕ) : Type 0 where
   pub over : p z ≡ x
   pub other : z ≡ x → ⊥
 
+-- p are the parents of a tree with root r, and q those after the subtree of c is hung by its vertex a on b, a vertex out of it: the path
+-- from a up to c is reversed, and every other vertex keeps its parent
 pub record Pivot (n r : ℕ) (p : ℕ → ℕ) (a b c : ℕ) (q : ℕ → ℕ) : Type 0 where
   pub tree : Rooted n r p
   pub a-low : a < n

@@ -2,24 +2,23 @@
 use mathlib.Core.Path.{_≡_, refl, sym, ap, subst, _∙_}
 use mathlib.Core.Bool.{Bool, true, false, cond}
 use mathlib.Core.List.{List}
-use Prim.Native.Nat.{ℕ, zero, suc, _^_, _≤_, _<_}
+use Prim.Native.Nat.{ℕ, _^_, _≤_, _<_}
 use native.Mathlib.Omega.{arith}
 use lib.ListN.{length}
-use lib.Pow.{pow-mono}
 use Rattle.arithmetic.specs.Bools.{clash, is-false}
-use Rattle.arithmetic.specs.Sum.{pick, sum}
+use Rattle.arithmetic.specs.Sum.{sum}
 use Rattle.arithmetic.specs.Table.{at}
-use Rattle.arithmetic.specs.Mask.{bit, mask, mask-lt, bit-mask, mask-bits}
+use Rattle.arithmetic.specs.Mask.{bit, mask, bit-mask, mask-bits}
 use Rattle.rooted_tree.specs.Chain.{below}
 use Rattle.rooted_tree.specs.Rooted.{Rooted, refl-b, not-root, trans-b, comparable}
-use Rattle.rooted_tree.specs.Subtotal.{subtotal}
 use Rattle.rooted_tree.specs.Flow.{flowCost}
 use Rattle.graph.specs.Graph.{Graph, joined, edgeLength}
-use Rattle.tree_pivot.specs.Pivot.{Pivot, end, path, side, out, place, new-tree, total-a}
+use Rattle.tree_pivot.specs.Pivot.{Pivot, end, path, side, out, place, new-tree}
 use Rattle.tree_pivot.specs.PivotCost.{Potential, can-pivot}
 use Rattle.tree_pivot.specs.PathReversal.{CanPivot, Pivoted}
-use Rattle.tree_pivot.specs.PivotTables.{CanAdvancePath, PathAdvanced, Totals, CanMoveTotals, TotalsMoved, CanShiftPotential, PotentialShifted, shifted}
+use Rattle.tree_pivot.specs.PivotTables.{CanAdvancePath, PathAdvanced, Totals, CanMoveTotals, TotalsMoved, CanShiftPotential, PotentialShifted, shifted, room-less}
 use Rattle.tree_pivot.specs.PivotTotals.{over-low, over-a, met-path, unmet-out}
+use Rattle.tree_pivot.specs.SubtreeMasks.{Masks, powers, powers-light, mask-totals, moved-masks, moved-subtree}
 use Rattle.tree_pivot.specs.PivotPotential.{Exceeds, Violates, excess, shift-room, new-potential, new-grounded, cost-falls}
 use Rattle.tree_pivot.specs.Basis.{Network, Basis}
 
@@ -33,18 +32,18 @@ pub record Joins (n : ℕ) (p : List ℕ) (a b j : ℕ) : Type 0 where
 
 -- ---- the path
 
-pub record CanReversePath (n : ℕ) (p above : List ℕ) (a b c : ℕ) : Type 0 where
+pub record CanReversePath (n : ℕ) (p above : List ℕ) (r a b c : ℕ) : Type 0 where
   pub few : n ≤ 64
-  pub can : CanPivot n p 0 a b c
+  pub can : CanPivot n p r a b c
   pub size : n ≤ length above
 
 -- the subtree of c is hung by a on b, and the lengths follow
-pub record PathReversed (n : ℕ) (p above : List ℕ) (a b c long : ℕ) (p' above' : List ℕ) : Type 0 where
-  pub parents : Pivoted n p 0 a b c p' c
+pub record PathReversed (n : ℕ) (p above : List ℕ) (r a b c long : ℕ) (p' above' : List ℕ) : Type 0 where
+  pub parents : Pivoted n p r a b c p'
   pub lengths : PathAdvanced n p a (at p c) long above above'
 
-pub can-advance-path : {n : ℕ} {p above : List ℕ} {a b c : ℕ} → CanReversePath n p above a b c → CanAdvancePath n p a (at p c) above
-can-advance-path {n} {p} {above} {a} {b} {c} w = record {
+pub can-advance-path : {n : ℕ} {p above : List ℕ} {r a b c : ℕ} → CanReversePath n p above r a b c → CanAdvancePath n p r a (at p c) above
+can-advance-path {n} {p} {above} {r} {a} {b} {c} w = record {
   size = w .can .size;
   walk = record {
     tree = w .can .tree;
@@ -94,27 +93,10 @@ pub record CheaperBasis (g : Graph) (m v : ℕ → ℕ) (old parents above suppl
   pub basis : Basis g m v parents above supply demand masks potential
   pub cheaper : treeCost g m v parents < treeCost g m v old
 
--- ---- a subtree's mask is its subtotal of powers of 2
-
-powers : ℕ → ℕ
-powers y = 2 ^ y
-
-mask-sum : (n : ℕ) (f : ℕ → Bool) → mask n f ≡ sum n (λ y. pick (f y) (powers y))
-unfolding mask sum powers
-mask-sum zero f = refl
-mask-sum (suc n) f = rw (mask-sum n f)
-
-mask-subtotal : (n : ℕ) (p : ℕ → ℕ) (x : ℕ) → mask n (λ y. below p n y x) ≡ subtotal p n powers x
-unfolding subtotal
-mask-subtotal n p x = mask-sum n (λ y. below p n y x)
-
-powers-light : (n : ℕ) → n ≤ 64 → sum n powers < 2 ^ 64
-powers-light n h = omega (arith, mask-sum n (λ y. true), mask-lt n (λ y. true), pow-mono h)
-
 -- ---- what each step of the pivot requires
 
-cuts : (rises : Bool) {n : ℕ} {p : List ℕ} {m v U : ℕ → ℕ} {a b c long : ℕ} → n ≤ length p → Rooted n 0 (at p) → a < n → b < n
-    → Violates rises n (at p) m v U a b c long → CanPivot n p 0 a b c
+cuts : (rises : Bool) {n : ℕ} {p : List ℕ} {m v U : ℕ → ℕ} {r a b c long : ℕ} → n ≤ length p → Rooted n r (at p) → a < n → b < n
+    → Violates rises n (at p) m v U a b c long → CanPivot n p r a b c
 cuts false size t la lb h = can-pivot size t la lb (h .leaves .candidate)
 cuts true size t la lb h = can-pivot size t la lb (h .leaves .candidate)
 
@@ -129,8 +111,8 @@ module _ {g : Graph} {m v : ℕ → ℕ} {n a b c long : ℕ} {rises : Bool} {pa
   cut : CanPivot n parents 0 a b c
   cut = cuts rises (omega (arith, few, can .basis .parents-size)) tree (can .a-low) (can .b-low) (can .violates)
 
-  mask-totals : Totals n (at parents) powers masks
-  mask-totals x l = (rw (can .size) at (can .basis .mask-is)) x l ∙ mask-subtotal n (at parents) x
+  old-masks : Masks n (at parents) masks
+  old-masks = rw (can .size) at (can .basis .mask-is)
 
   pub can-exceed : CanExceed rises potential a b long
   can-exceed = record {
@@ -140,7 +122,7 @@ module _ {g : Graph} {m v : ℕ → ℕ} {n a b c long : ℕ} {rises : Bool} {pa
   }
 
   module _ {j : ℕ} (join : Joins n parents a b j) where
-    can-move : (t : List ℕ) (f : ℕ → ℕ) → length t ≡ 64 → sum n f < 2 ^ 64 → Totals n (at parents) f t → CanMoveTotals n parents a b c j t
+    can-move : (t : List ℕ) (f : ℕ → ℕ) → length t ≡ 64 → sum n f < 2 ^ 64 → Totals n (at parents) f t → CanMoveTotals n parents 0 a b c j t
     can-move t f size light totals = record {
       can = cut;
       size = omega (arith, few);
@@ -153,22 +135,22 @@ module _ {g : Graph} {m v : ℕ → ℕ} {n a b c long : ℕ} {rises : Bool} {pa
       totals = totals;
     }
 
-    pub can-move-supply : CanMoveTotals n parents a b c j supply
+    pub can-move-supply : CanMoveTotals n parents 0 a b c j supply
     can-move-supply =
         can-move supply m (can .basis .supply-size)
         (omega (arith, rw (can .size) at (can .network .light)))
         (rw (can .size) at (can .basis .supply-is))
 
-    pub can-move-demand : CanMoveTotals n parents a b c j demand
+    pub can-move-demand : CanMoveTotals n parents 0 a b c j demand
     can-move-demand =
         can-move demand v (can .basis .demand-size)
         (omega (arith, rw (can .size) at (can .network .light), rw (can .size) at (can .basis .balances .same)))
         (rw (can .size) at (can .basis .demand-is))
 
-    pub can-move-masks : CanMoveTotals n parents a b c j masks
-    can-move-masks = can-move masks powers (can .basis .masks-size) (powers-light n few) mask-totals
+    pub can-move-masks : CanMoveTotals n parents 0 a b c j masks
+    can-move-masks = can-move masks powers (can .basis .masks-size) (powers-light n few) (mask-totals n (at parents) masks old-masks)
 
-  pub can-reverse-path : CanReversePath n parents above a b c
+  pub can-reverse-path : CanReversePath n parents above 0 a b c
   can-reverse-path = record { few = few; can = cut; size = omega (arith, few, can .basis .above-size) }
 
   -- ---- the new basis
@@ -185,28 +167,26 @@ module _ {g : Graph} {m v : ℕ → ℕ} {n a b c long : ℕ} {rises : Bool} {pa
   old : Potential n 0 (at parents) (edgeLength g) m v (at potential)
   old = subst (λ (k : ℕ). Potential k 0 (at parents) (edgeLength g) m v (at potential)) (can .size) (can .basis .balances)
 
-  module _ {parents' above' masks' : List ℕ} (turned : PathReversed n parents above a b c long parents' above')
-      (moved : TotalsMoved n parents a b c masks masks') where
+  module _ {parents' above' masks' : List ℕ} (turned : PathReversed n parents above 0 a b c long parents' above')
+      (moved : TotalsMoved n parents 0 a b c masks masks') where
     pivot : Pivot n 0 (at parents) a b c (at parents')
     pivot = turned .parents .pivot
 
-    -- the new subtree of a is the one that was cut off
     subtree-mask : at masks' a ≡ mask n (λ y. below (at parents) n y c)
-    subtree-mask =
-        moved .totals (at parents') powers pivot mask-totals a (can .a-low) ∙ total-a pivot powers ∙ sym (mask-subtotal n (at parents) c)
+    subtree-mask = moved-subtree moved pivot old-masks
 
     subtree-bit : (x : ℕ) → x < n → bit (at masks' a) x ≡ below (at parents) n x c
     subtree-bit x l = ap (λ (z : ℕ). bit z x) subtree-mask ∙ bit-mask n (λ y. below (at parents) n y c) x l
 
-    pub can-shift-potential : (d : ℕ) → d ≡ excess rises (at potential a) (at potential b) long → CanShiftPotential n (at masks' a) rises d potential
+    pub can-shift-potential : (d : ℕ) → d ≤ excess rises (at potential a) (at potential b) long → CanShiftPotential n (at masks' a) rises d potential
     can-shift-potential d e = record {
       few = few;
       size = omega (arith, few, can .basis .potential-size);
       word = mask-bits n _ _ subtree-mask;
       room = λ x l h.
-          rw (e, can .length-is)
+          room-less 32 rises d _ (at potential x) e (rw (can .length-is)
           (shift-room pivot (can .network .symmetric) old (can .network .short) few (can .basis .grounded) rises violates x l
-          (sym (subtree-bit x l) ∙ h));
+          (sym (subtree-bit x l) ∙ h)));
     }
 
     new-edge : (x : ℕ) → x < n → (x ≡ 0 → ⊥) → joined g x (at parents' x) ≡ true
@@ -235,8 +215,8 @@ module _ {g : Graph} {m v : ℕ → ℕ} {n a b c long : ℕ} {rises : Bool} {pa
           | out e f k ↦ rw k (turned .lengths .kept x l (unmet-out cut x e) ∙ old-above x l d)
         ]
 
-    module _ {supply' demand' potential' : List ℕ} (moved-supply : TotalsMoved n parents a b c supply supply')
-        (moved-demand : TotalsMoved n parents a b c demand demand') {d : ℕ} (d-is : d ≡ excess rises (at potential a) (at potential b) long)
+    module _ {supply' demand' potential' : List ℕ} (moved-supply : TotalsMoved n parents 0 a b c supply supply')
+        (moved-demand : TotalsMoved n parents 0 a b c demand demand') {d : ℕ} (d-is : d ≡ excess rises (at potential a) (at potential b) long)
         (raised : PotentialShifted (at masks' a) rises d potential potential' n) where
       new-value : (x : ℕ) → x < n → at potential' x
           ≡ cond (below (at parents) n x c) (shifted rises (excess rises (at potential a) (at potential b) (edgeLength g a b)) (at potential x)) (at potential x)
@@ -256,7 +236,7 @@ module _ {g : Graph} {m v : ℕ → ℕ} {n a b c long : ℕ} {rises : Bool} {pa
           above-is = λ x l e. new-above x (omega (arith, can .size)) e;
           supply-is = rw (can .size) (moved-supply .totals (at parents') m pivot (rw (can .size) at (can .basis .supply-is)));
           demand-is = rw (can .size) (moved-demand .totals (at parents') v pivot (rw (can .size) at (can .basis .demand-is)));
-          mask-is = rw (can .size) (λ x l. moved .totals (at parents') powers pivot mask-totals x l ∙ sym (mask-subtotal n (at parents') x));
+          mask-is = rw (can .size) (moved-masks moved pivot old-masks);
           balances =
               subst (λ (k : ℕ). Potential k 0 (at parents') (edgeLength g) m v (at potential')) (sym (can .size))
               (new-potential pivot (can .network .symmetric) old (can .network .short) few (can .basis .grounded) rises violates (at potential') new-value

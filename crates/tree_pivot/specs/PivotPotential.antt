@@ -17,9 +17,9 @@ use Rattle.tree_pivot.specs.PivotCost.{Potential, Leaving, mirrored, new
 use Rattle.tree_pivot.specs.PivotTables.{shifted, Room}
 
 -- the potentials u of a and w of b are further apart than the edge between them is long: u has to fall, or to rise
-abbrev pub Exceeds : Bool → (u w length : ℕ) → Type 0
-Exceeds false u w length = w + length < u
-Exceeds true u w length = u + length < w
+abbrev pub Exceeds : Bool → (u w long : ℕ) → Type 0
+Exceeds false u w long = w + long < u
+Exceeds true u w long = u + long < w
 
 -- c, on a's side, is to leave
 abbrev pub Leaves : Bool → ℕ → (p m v : ℕ → ℕ) → (a b c : ℕ) → Type 0
@@ -27,14 +27,14 @@ Leaves false n p m v a b c = Leaving n p m v a b c
 Leaves true n p m v a b c = Leaving n p v m a b c
 
 -- the potential violates the edge between a and b, which is to enter
-pub record Violates (rises : Bool) (n : ℕ) (p m v U : ℕ → ℕ) (a b c length : ℕ) : Type 0 where
-  pub exceeds : Exceeds rises (U a) (U b) length
+pub record Violates (rises : Bool) (n : ℕ) (p m v U : ℕ → ℕ) (a b c long : ℕ) : Type 0 where
+  pub exceeds : Exceeds rises (U a) (U b) long
   pub leaves : Leaves rises n p m v a b c
 
 -- by how much
-abbrev pub excess : Bool → (u w length : ℕ) → ℕ
-excess false u w length = u - w - length
-excess true u w length = w - u - length
+abbrev pub excess : Bool → (u w long : ℕ) → ℕ
+excess false u w long = u - w - long
+excess true u w long = w - u - long
 
 agrees-more : (k u w d a b : ℕ) → Agrees u w d a b → Agrees (u + k) (w + k) d a b
 agrees-more k u w d a b = ⊎-elim (λ h. inl (h .0, omega arith)) (λ h. inr (h .0, omega arith))
@@ -43,19 +43,19 @@ agrees-less : (k u w d a b : ℕ) → Agrees (u + k) (w + k) d a b → Agrees u 
 agrees-less k u w d a b = ⊎-elim (λ h. inl (h .0, omega arith)) (λ h. inr (h .0, omega arith))
 
 -- over edges of at most 65535 a potential is no further from the root's than 65535 for each step
-pub near-root : {n : ℕ} {p : ℕ → ℕ} (t : Rooted n 0 p) (W : ℕ → ℕ)
-    → ((x : ℕ) → x < n → (x ≡ 0 → ⊥) → (W x ≤ W (p x) + 65535) × (W (p x) ≤ W x + 65535))
-    → (x : ℕ) → x < n → (W x ≤ W 0 + 65535 * depth p 0 n x) × (W 0 ≤ W x + 65535 * depth p 0 n x)
-near-root {n} {p} t W near =
-    tree-ind t (λ x. (W x ≤ W 0 + 65535 * depth p 0 n x) × (W 0 ≤ W x + 65535 * depth p 0 n x))
+pub near-root : {n r : ℕ} {p : ℕ → ℕ} (t : Rooted n r p) (W : ℕ → ℕ)
+    → ((x : ℕ) → x < n → (x ≡ r → ⊥) → (W x ≤ W (p x) + 65535) × (W (p x) ≤ W x + 65535))
+    → (x : ℕ) → x < n → (W x ≤ W r + 65535 * depth p r n x) × (W r ≤ W x + 65535 * depth p r n x)
+near-root {n} {r} {p} t W near =
+    tree-ind t (λ x. (W x ≤ W r + 65535 * depth p r n x) × (W r ≤ W x + 65535 * depth p r n x))
     (omega arith, omega arith)
     (λ x l d h. let z = near x l d in (omega (arith, depth-step t x l d), omega (arith, depth-step t x l d)))
 
-module _ {n : ℕ} {p : ℕ → ℕ} {a b c : ℕ} {q : ℕ → ℕ} (w : Pivot n 0 p a b c q)
+module _ {n r : ℕ} {p : ℕ → ℕ} {a b c : ℕ} {q : ℕ → ℕ} (w : Pivot n r p a b c q)
     {len : ℕ → ℕ → ℕ} (len-sym : (x y : ℕ) → len x y ≡ len y x)
-    {m v U : ℕ → ℕ} (u : Potential n 0 p len m v U) where
+    {m v U : ℕ → ℕ} (u : Potential n r p len m v U) where
   -- at every vertex but a the old potential agrees with the new flow
-  agrees-still : (rises : Bool) → Violates rises n p m v U a b c (len a b) → (x : ℕ) → x < n → (x ≡ 0 → ⊥) → (x ≡ a → ⊥)
+  agrees-still : (rises : Bool) → Violates rises n p m v U a b c (len a b) → (x : ℕ) → x < n → (x ≡ r → ⊥) → (x ≡ a → ⊥)
       → Agrees (U x) (U (q x)) (len x (q x)) (subtotal q n m x) (subtotal q n v x)
   agrees-still false h x l d ne = new-agrees w len-sym u (h .leaves) x l d ne
   agrees-still true h x l d ne =
@@ -65,7 +65,7 @@ module _ {n : ℕ} {p : ℕ → ℕ} {a b c : ℕ} {q : ℕ → ℕ} (w : Pivot 
       (new-agrees w len-sym (mirrored (w .tree) u) (h .leaves) x l d ne)
 
   pub cost-falls : (rises : Bool) → Violates rises n p m v U a b c (len a b)
-      → flowCost n 0 q (λ x. len x (q x)) m v < flowCost n 0 p (λ x. len x (p x)) m v
+      → flowCost n r q (λ x. len x (q x)) m v < flowCost n r p (λ x. len x (p x)) m v
   cost-falls false h = pivot-falls w len-sym u (h .leaves) (h .exceeds)
   cost-falls true h = pivot-falls' w len-sym u (h .leaves) (h .exceeds)
 
@@ -87,7 +87,7 @@ module _ {n : ℕ} {p : ℕ → ℕ} {a b c : ℕ} {q : ℕ → ℕ} (w : Pivot 
   at-edge false h = inl (omega (arith, h .leaves .candidate .flow), omega arith)
   at-edge true h = inr (omega (arith, h .leaves .candidate .flow), omega arith)
 
-  raised-agrees : (rises : Bool) → Violates rises n p m v U a b c (len a b) → (x : ℕ) → x < n → (x ≡ 0 → ⊥)
+  raised-agrees : (rises : Bool) → Violates rises n p m v U a b c (len a b) → (x : ℕ) → x < n → (x ≡ r → ⊥)
       → Agrees (raised rises x) (raised rises (q x)) (len x (q x)) (subtotal q n m x) (subtotal q n v x)
   unfolding raised
   raised-agrees rises h x l d =
@@ -97,7 +97,7 @@ module _ {n : ℕ} {p : ℕ → ℕ} {a b c : ℕ} {q : ℕ → ℕ} (w : Pivot 
       let same : below p n (q x) c ≡ below p n x c = sym (a-step w x l d ∙ rw (ne-eqb x a ne)) in
       rw same (agrees-more _ _ _ _ _ _ (agrees-still rises h x l d ne)))
 
-  module _ (short : (x y : ℕ) → len x y ≤ 65535) (few : n ≤ 64) (grounded : U 0 ≡ 2 ^ 23) where
+  module _ (short : (x y : ℕ) → len x y ≤ 65535) (few : n ≤ 64) (grounded : U r ≡ 2 ^ 23) where
     -- it keeps near the root's: a step is at most 65535, and there are no more than 63
     raised-near : (rises : Bool) → Violates rises n p m v U a b c (len a b) → (x : ℕ) → x < n
         → (raised rises x ≤ 2 ^ 23 + outside rises + 65535 * 63) × (2 ^ 23 + outside rises ≤ raised rises x + 65535 * 63)
@@ -108,7 +108,7 @@ module _ {n : ℕ} {p : ℕ → ℕ} {a b c : ℕ} {q : ℕ → ℕ} (w : Pivot 
         let near = agrees-near _ _ _ _ _ (raised-agrees rises h y k d) in
         let s = short y (q y) in
         (omega arith, omega arith)) x l in
-        let r : raised rises 0 ≡ 2 ^ 23 + outside rises = rw (root-out w, grounded) in
+        let root : raised rises r ≡ 2 ^ 23 + outside rises = rw (root-out w, grounded) in
         let d = depth-lt (new-tree w) x l in
         (omega arith, omega arith)
 
@@ -135,7 +135,7 @@ module _ {n : ℕ} {p : ℕ → ℕ} {a b c : ℕ} {q : ℕ → ℕ} (w : Pivot 
           (λ e. rw (new x l, e))
 
       -- the shifted potential is the new tree's
-      pub new-potential : ((x : ℕ) → x < n → (x ≡ 0 → ⊥) → subtotal q n m x ≡ subtotal q n v x → ⊥) → Potential n 0 q len m v U'
+      pub new-potential : ((x : ℕ) → x < n → (x ≡ r → ⊥) → subtotal q n m x ≡ subtotal q n v x → ⊥) → Potential n r q len m v U'
       new-potential nonzero = record {
         same = u .same;
         nonzero = nonzero;
@@ -143,5 +143,5 @@ module _ {n : ℕ} {p : ℕ → ℕ} {a b c : ℕ} {q : ℕ → ℕ} (w : Pivot 
             agrees-less (outside rises) _ _ _ _ _ (rw (new-is x l, new-is (q x) (q-into w x l)) (raised-agrees rises h x l d));
       }
 
-      pub new-grounded : U' 0 ≡ 2 ^ 23
-      new-grounded = new 0 (w .tree .root) ∙ rw (root-out w, grounded)
+      pub new-grounded : U' r ≡ 2 ^ 23
+      new-grounded = new r (w .tree .root) ∙ rw (root-out w, grounded)

@@ -11,10 +11,10 @@ use Rattle.arithmetic.specs.Bools.{case≡, clash}
 use Rattle.arithmetic.specs.Sum.{sum}
 use Rattle.arithmetic.specs.Table.{at}
 use Rattle.arithmetic.specs.Mask.{bit, mask}
+use Rattle.vertex_set.specs.Lowest.{lowest}
+use Rattle.vertex_set.specs.Without.{Without, without-lowest}
 use Rattle.rooted_tree.specs.Chain.{below}
 use Rattle.rooted_tree.specs.Subtotal.{subtotal}
-use Rattle.transport_plan.specs.Plan.{lowest}
-use Rattle.tree_pivot.specs.Words.{Without, without-lowest}
 use Rattle.tree_pivot.specs.Pivot.{Pivot}
 use Rattle.tree_pivot.specs.PathReversal.{CanPivot}
 use Rattle.tree_pivot.specs.PathWalk.{CanWalk, passed, Stored, Handed}
@@ -28,6 +28,11 @@ shifted false d u = u - d
 abbrev pub Room : ℕ → Bool → ℕ → ℕ → Type 0
 Room w true d u = u + d < 2 ^ w
 Room w false d u = d ≤ u
+
+-- there is room for less where there is for more
+pub room-less : (w : ℕ) (rises : Bool) (d e u : ℕ) → d ≤ e → Room w rises e u → Room w rises d u
+room-less w true d e u l h = omega arith
+room-less w false d e u l h = omega arith
 
 -- a word of 32 bits is one of 64
 room-wide : (rises : Bool) (d u : ℕ) → Room 32 rises d u → Room 64 rises d u
@@ -44,27 +49,27 @@ shifted-fits false d u h l = omega arith
 abbrev pub PathShifted : ℕ → List ℕ → (from y : ℕ) → Bool → ℕ → (t u : List ℕ) → Type 0
 PathShifted n p from y rises d t u = Stored n (at p) from y (λ x k. k ≡ shifted rises d (at t x)) t u
 
-pub record CanShiftPath (n : ℕ) (p : List ℕ) (from stop : ℕ) (rises : Bool) (d : ℕ) (t : List ℕ) : Type 0 where
+pub record CanShiftPath (n : ℕ) (p : List ℕ) (r from stop : ℕ) (rises : Bool) (d : ℕ) (t : List ℕ) : Type 0 where
   pub size : n ≤ length p
-  pub walk : CanWalk n (at p) from stop (length t)
+  pub walk : CanWalk n r (at p) from stop (length t)
   pub room : (x : ℕ) → x < n → passed n (at p) from stop x ≡ true → Room 64 rises d (at t x)
 
 -- from a up to y, and not at y, each vertex has the total less the number of the vertex before it
 abbrev pub PathComplemented : ℕ → List ℕ → (a y total : ℕ) → (t u : List ℕ) → Type 0
 PathComplemented n p a y total t u = Stored n (at p) a y (λ x k. (e : ℕ) × (Handed n (at p) a t 0 x e × (k ≡ total - e))) t u
 
-pub record CanComplementPath (n : ℕ) (p : List ℕ) (a stop total : ℕ) (t : List ℕ) : Type 0 where
+pub record CanComplementPath (n : ℕ) (p : List ℕ) (r a stop total : ℕ) (t : List ℕ) : Type 0 where
   pub size : n ≤ length p
-  pub walk : CanWalk n (at p) a stop (length t)
+  pub walk : CanWalk n r (at p) a stop (length t)
   pub part : (x : ℕ) → x < n → passed n (at p) a stop x ≡ true → at t x ≤ total
 
 -- from a up to y, and not at y, each vertex has the number of the vertex before it, and a the first
 abbrev pub PathAdvanced : ℕ → List ℕ → (a y first : ℕ) → (t u : List ℕ) → Type 0
 PathAdvanced n p a y first t u = Stored n (at p) a y (Handed n (at p) a t first) t u
 
-pub record CanAdvancePath (n : ℕ) (p : List ℕ) (a stop : ℕ) (t : List ℕ) : Type 0 where
+pub record CanAdvancePath (n : ℕ) (p : List ℕ) (r a stop : ℕ) (t : List ℕ) : Type 0 where
   pub size : n ≤ length p
-  pub walk : CanWalk n (at p) a stop (length t)
+  pub walk : CanWalk n r (at p) a stop (length t)
 
 -- ---- the subtotals of one mass
 
@@ -73,8 +78,8 @@ abbrev pub Totals : ℕ → (ℕ → ℕ) → (ℕ → ℕ) → List ℕ → Typ
 Totals n p f t = (x : ℕ) → x < n → at t x ≡ subtotal p n f x
 
 -- the subtree of c can be hung by a on b; j is above both sides
-pub record CanMoveTotals (n : ℕ) (p : List ℕ) (a b c j : ℕ) (t : List ℕ) : Type 0 where
-  pub can : CanPivot n p 0 a b c
+pub record CanMoveTotals (n : ℕ) (p : List ℕ) (r a b c j : ℕ) (t : List ℕ) : Type 0 where
+  pub can : CanPivot n p r a b c
   pub size : n ≤ length t
   pub j-low : j < n
   pub over-b : below (at p) n b j ≡ true
@@ -84,9 +89,9 @@ pub record CanMoveTotals (n : ℕ) (p : List ℕ) (a b c j : ℕ) (t : List ℕ)
   pub totals : Totals n (at p) mass t
 
 -- the totals of the old tree have become those of the new one
-pub record TotalsMoved (n : ℕ) (p : List ℕ) (a b c : ℕ) (t u : List ℕ) : Type 0 where
+pub record TotalsMoved (n : ℕ) (p : List ℕ) (r a b c : ℕ) (t u : List ℕ) : Type 0 where
   pub size : length u ≡ length t
-  pub totals : (q f : ℕ → ℕ) → Pivot n 0 (at p) a b c q → Totals n (at p) f t → Totals n q f u
+  pub totals : (q f : ℕ → ℕ) → Pivot n r (at p) a b c q → Totals n (at p) f t → Totals n q f u
 
 -- ---- the potential of a subtree, given by its mask
 

@@ -17,7 +17,7 @@ use Rattle.tree_pivot.specs.PathReversal.{CanPivot}
 use Rattle.tree_pivot.specs.PathWalk.{passed, met-not, and-not, not-both}
 use Rattle.tree_pivot.specs.PivotTables.{PathShifted, CanShiftPath, PathComplemented, CanComplementPath, Totals, CanMoveTotals, TotalsMoved}
 
-module _ {n : ℕ} {p : ℕ → ℕ} (t : Rooted n 0 p) (f : ℕ → ℕ) where
+module _ {n r : ℕ} {p : ℕ → ℕ} (t : Rooted n r p) (f : ℕ → ℕ) where
   -- what is below x has no more below it than x
   subtotal-le : (x y : ℕ) → below p n y x ≡ true → subtotal p n f y ≤ subtotal p n f x
   unfolding subtotal
@@ -43,7 +43,7 @@ module _ {n : ℕ} {p : ℕ → ℕ} (t : Rooted n 0 p) (f : ℕ → ℕ) where
 
 -- ---- the path from a up to c's parent
 
-module _ {n : ℕ} {p : List ℕ} {a b c : ℕ} (can : CanPivot n p 0 a b c) where
+module _ {n : ℕ} {p : List ℕ} {r a b c : ℕ} (can : CanPivot n p r a b c) where
   pub over-low : at p c < n
   over-low = can .tree .into c (can .c-low)
 
@@ -84,11 +84,11 @@ module _ {n : ℕ} {p : List ℕ} {a b c : ℕ} (can : CanPivot n p 0 a b c) whe
 
 -- ---- the walks
 
-module _ {n : ℕ} {p : List ℕ} {a b c j : ℕ} {t : List ℕ} (can : CanMoveTotals n p a b c j t) where
-  tree : Rooted n 0 (at p)
+module _ {n : ℕ} {p : List ℕ} {r a b c j : ℕ} {t : List ℕ} (can : CanMoveTotals n p r a b c j t) where
+  tree : Rooted n r (at p)
   tree = can .can .tree
 
-  pub can-take : CanShiftPath n p (at p c) j false (at t c) t
+  pub can-take : CanShiftPath n p r (at p c) j false (at t c) t
   can-take = record {
     size = can .can .size;
     walk = record {
@@ -126,7 +126,7 @@ module _ {n : ℕ} {p : List ℕ} {a b c j : ℕ} {t : List ℕ} (can : CanMoveT
           can .light,
         ))
 
-    pub can-give : CanShiftPath n p b j true (at t c) u
+    pub can-give : CanShiftPath n p r b j true (at t c) u
     can-give = record {
       size = can .can .size;
       walk = record {
@@ -144,7 +144,7 @@ module _ {n : ℕ} {p : List ℕ} {a b c j : ℕ} {t : List ℕ} (can : CanMoveT
       within : (x : ℕ) → x < n → below (at p) n x c ≡ true → at w x ≡ at t x
       within x l e = given .kept x l (rw (not-b (can .can) x e)) ∙ taken .kept x l (rw (not-over (can .can) x e))
 
-      pub can-complement : CanComplementPath n p a (at p c) (at t c) w
+      pub can-complement : CanComplementPath n p r a (at p c) (at t c) w
       can-complement = record {
         size = can .can .size;
         walk = record {
@@ -160,7 +160,7 @@ module _ {n : ℕ} {p : List ℕ} {a b c j : ℕ} {t : List ℕ} (can : CanMoveT
       }
 
       module _ {z : List ℕ} (reversed : PathComplemented n p a (at p c) (at t c) w z)
-          {q : ℕ → ℕ} (pivot : Pivot n 0 (at p) a b c q) (f : ℕ → ℕ) (totals : Totals n (at p) f t) where
+          {q : ℕ → ℕ} (pivot : Pivot n r (at p) a b c q) (f : ℕ → ℕ) (totals : Totals n (at p) f t) where
         c-total : at t c ≡ subtotal (at p) n f c
         c-total = totals c (can .can .c-low)
 
@@ -238,7 +238,7 @@ module _ {n : ℕ} {p : List ℕ} {a b c j : ℕ} {t : List ℕ} (can : CanMoveT
               | out e g h ↦ reversed .kept x l (unmet-out (can .can) x e) ∙ new-out x l e
             ]
 
-      pub moved-totals : {z : List ℕ} → PathComplemented n p a (at p c) (at t c) w z → TotalsMoved n p a b c t z
+      pub moved-totals : {z : List ℕ} → PathComplemented n p a (at p c) (at t c) w z → TotalsMoved n p r a b c t z
       moved-totals reversed = record {
         size = reversed .size ∙ given .size ∙ taken .size;
         totals = λ q f pivot totals. new-totals reversed pivot f totals;

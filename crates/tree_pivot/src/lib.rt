@@ -18,6 +18,7 @@ fn shifted(rises: bool, d: u64, u: u64) -> u64
 // Raises or lowers by d the number of each vertex from `from` up to `stop`, and not that of `stop`.
 fn shift_path(
     n: usize,
+    root: usize,
     from: usize,
     stop: usize,
     rises: bool,
@@ -25,7 +26,7 @@ fn shift_path(
     parents: &[u32],
     table: &mut [u64],
 )
-    requires { ⌜ CanShiftPath n (now parents) from stop rises d (now table) ⌝ }
+    requires { ⌜ CanShiftPath n (now parents) root from stop rises d (now table) ⌝ }
     ensures { λ _. ⌜ PathShifted n (now (parents .entry)) from stop rises d (now (table .entry)) (now (table .exit)) ⌝ }
 {
     let mut y = from;
@@ -36,8 +37,16 @@ fn shift_path(
 }
 
 // Reverses the totals of the path from a up to `stop`: what is now below a vertex is all but what was below the one before it.
-fn complement_path(n: usize, a: usize, stop: usize, total: u64, parents: &[u32], table: &mut [u64])
-    requires { ⌜ CanComplementPath n (now parents) a stop total (now table) ⌝ }
+fn complement_path(
+    n: usize,
+    root: usize,
+    a: usize,
+    stop: usize,
+    total: u64,
+    parents: &[u32],
+    table: &mut [u64],
+)
+    requires { ⌜ CanComplementPath n (now parents) root a stop total (now table) ⌝ }
     ensures { λ _. ⌜ PathComplemented n (now (parents .entry)) a stop total (now (table .entry)) (now (table .exit)) ⌝ }
 {
     let mut y = a;
@@ -51,8 +60,16 @@ fn complement_path(n: usize, a: usize, stop: usize, total: u64, parents: &[u32],
 }
 
 // Moves each length of the path from a up to `stop` one vertex up.
-fn advance_path(n: usize, a: usize, stop: usize, first: u32, parents: &[u32], above: &mut [u32])
-    requires { ⌜ CanAdvancePath n (now parents) a stop (now above) ⌝ }
+fn advance_path(
+    n: usize,
+    root: usize,
+    a: usize,
+    stop: usize,
+    first: u32,
+    parents: &[u32],
+    above: &mut [u32],
+)
+    requires { ⌜ CanAdvancePath n (now parents) root a stop (now above) ⌝ }
     ensures { λ _. ⌜ PathAdvanced n (now (parents .entry)) a stop first (now (above .entry)) (now (above .exit)) ⌝ }
 {
     let mut y = a;
@@ -65,10 +82,10 @@ fn advance_path(n: usize, a: usize, stop: usize, first: u32, parents: &[u32], ab
     }
 }
 
-// Hangs the subtree of c by its vertex a on b.
-fn reverse_parents(n: usize, a: usize, b: usize, c: usize, parents: &mut [u32])
-    requires { ⌜ (n ≤ 64) × CanPivot n (now parents) 0 a b c ⌝ }
-    ensures { λ _. ⌜ Pivoted n (now (parents .entry)) 0 a b c (now (parents .exit)) c ⌝ }
+// Hangs the subtree of c by its vertex a on b: the path from a up to c is reversed.
+pub fn reverse_parents(n: usize, root: usize, a: usize, b: usize, c: usize, parents: &mut [u32])
+    requires { ⌜ (n ≤ 64) × CanPivot n (now parents) root a b c ⌝ }
+    ensures { λ _. ⌜ Pivoted n (now (parents .entry)) root a b c (now (parents .exit)) ⌝ }
 {
     let mut up = a;
     let mut last = b;
@@ -80,27 +97,29 @@ fn reverse_parents(n: usize, a: usize, b: usize, c: usize, parents: &mut [u32])
     }
 }
 
-// Hangs the subtree of c by its vertex a on b, by an edge of that length.
+// Hangs the subtree of c by its vertex a on b, by an edge of length `long`.
 fn reverse_path(
     n: usize,
+    root: usize,
     a: usize,
     b: usize,
     c: usize,
-    length: u32,
+    long: u32,
     parents: &mut [u32],
     above: &mut [u32],
 )
-    requires { ⌜ CanReversePath n (now parents) (now above) a b c ⌝ }
-    ensures { λ _. ⌜ PathReversed n (now (parents .entry)) (now (above .entry)) a b c length (now (parents .exit)) (now (above .exit)) ⌝ }
+    requires { ⌜ CanReversePath n (now parents) (now above) root a b c ⌝ }
+    ensures { λ _. ⌜ PathReversed n (now (parents .entry)) (now (above .entry)) root a b c long (now (parents .exit)) (now (above .exit)) ⌝ }
 {
     let over = parents[c] as usize;
-    advance_path(n, a, over, length, parents, above);
-    reverse_parents(n, a, b, c, parents);
+    advance_path(n, root, a, over, long, parents, above);
+    reverse_parents(n, root, a, b, c, parents);
 }
 
 // Moves the mass of the subtree of c, in a table of subtotals, to where a hangs on b.
 fn move_totals(
     n: usize,
+    root: usize,
     a: usize,
     b: usize,
     c: usize,
@@ -108,14 +127,14 @@ fn move_totals(
     parents: &[u32],
     table: &mut [u64],
 )
-    requires { ⌜ CanMoveTotals n (now parents) a b c join (now table) ⌝ }
-    ensures { λ _. ⌜ TotalsMoved n (now (parents .entry)) a b c (now (table .entry)) (now (table .exit)) ⌝ }
+    requires { ⌜ CanMoveTotals n (now parents) root a b c join (now table) ⌝ }
+    ensures { λ _. ⌜ TotalsMoved n (now (parents .entry)) root a b c (now (table .entry)) (now (table .exit)) ⌝ }
 {
     let total = table[c];
     let over = parents[c] as usize;
-    shift_path(n, over, join, false, total, parents, table);
-    shift_path(n, b, join, true, total, parents, table);
-    complement_path(n, a, over, total, parents, table);
+    shift_path(n, root, over, join, false, total, parents, table);
+    shift_path(n, root, b, join, true, total, parents, table);
+    complement_path(n, root, a, over, total, parents, table);
 }
 
 // Raises or lowers the potential of each vertex of a subtree, given by its mask, by d.
@@ -125,32 +144,32 @@ fn shift_potential(n: usize, subtree: u64, rises: bool, d: u32, potential: &mut 
 {
     let mut left = subtree;
     while left != 0 {
-        let x = transport_plan::lowest_vertex(n, left);
+        let x = vertex_set::lowest_vertex(n, left);
         potential[x] = shifted(rises, d as u64, potential[x] as u64) as u32;
         left = left - (1u64 << x);
     }
 }
 
-// By how much the subtree's potential has to fall, or to rise, until the edge between a and b is tight.
-fn excess_of(rises: bool, a: usize, b: usize, length: u32, potential: &[u32]) -> u32
-    requires { ⌜ CanExceed rises (now potential) a b length ⌝ }
-    ensures { λ r. ⌜ r ≡ excess rises (at (now (potential .entry)) a) (at (now (potential .entry)) b) length ⌝ }
+// By how much the subtree's potential has to fall, or to rise, until the edge between a and b, of length `long`, is tight.
+fn excess_of(rises: bool, a: usize, b: usize, long: u32, potential: &[u32]) -> u32
+    requires { ⌜ CanExceed rises (now potential) a b long ⌝ }
+    ensures { λ r. ⌜ r ≡ excess rises (at (now (potential .entry)) a) (at (now (potential .entry)) b) long ⌝ }
 {
     if rises {
-        potential[b] - potential[a] - length
+        potential[b] - potential[a] - long
     } else {
-        potential[a] - potential[b] - length
+        potential[a] - potential[b] - long
     }
 }
 
-// The pivot: the edge between a and b enters and c leaves. The subtree of c is cut off and hung by a on b, by that edge; `join` is above both.
+// The pivot: the edge between a and b enters and c leaves. The subtree of c is cut off and hung by a on b, by that edge, of length `long`; `join` is above both.
 pub fn pivot(
     n: usize,
     a: usize,
     b: usize,
     c: usize,
     join: usize,
-    length: u32,
+    long: u32,
     rises: bool,
     parents: &mut [u32],
     above: &mut [u32],
@@ -159,15 +178,15 @@ pub fn pivot(
     masks: &mut [u64],
     potential: &mut [u32],
 )
-    requires { ⌜ PivotInput n a b c join length rises (now parents) (now above) (now supply) (now demand) (now masks) (now potential) ⌝ }
+    requires { ⌜ PivotInput n a b c join long rises (now parents) (now above) (now supply) (now demand) (now masks) (now potential) ⌝ }
     ensures { λ _. ⌜ ((g : Graph) (m v : ℕ → ℕ)
-        → CanPivotBasis g m v n a b c length rises (now (parents .entry)) (now (above .entry)) (now (supply .entry)) (now (demand .entry)) (now (masks .entry)) (now (potential .entry))
+        → CanPivotBasis g m v n a b c long rises (now (parents .entry)) (now (above .entry)) (now (supply .entry)) (now (demand .entry)) (now (masks .entry)) (now (potential .entry))
         → CheaperBasis g m v (now (parents .entry)) (now (parents .exit)) (now (above .exit)) (now (supply .exit)) (now (demand .exit)) (now (masks .exit)) (now (potential .exit))) ⌝ }
 {
-    let d = excess_of(rises, a, b, length, potential);
-    move_totals(n, a, b, c, join, parents, supply);
-    move_totals(n, a, b, c, join, parents, demand);
-    move_totals(n, a, b, c, join, parents, masks);
-    reverse_path(n, a, b, c, length, parents, above);
+    let d = excess_of(rises, a, b, long, potential);
+    move_totals(n, 0, a, b, c, join, parents, supply);
+    move_totals(n, 0, a, b, c, join, parents, demand);
+    move_totals(n, 0, a, b, c, join, parents, masks);
+    reverse_path(n, 0, a, b, c, long, parents, above);
     shift_potential(n, masks[a], rises, d, potential);
 }

@@ -1,32 +1,103 @@
 -- How the answer to an image follows from what was read, and from the weighing or the best answer.
 use Prim.Native.Nat.{ℕ, zero, suc, _*_, _≤_, _<_}
-use mathlib.Core.Path.{_≡_, refl, sym, ap, _∙_}
+use mathlib.Core.Path.{_≡_, refl, sym, _∙_}
 use mathlib.Core.Bool.{Bool, true, false, cond, _&&_, and-false}
-use mathlib.Core.List.{List}
+use mathlib.Core.List.{List, []}
 use native.Mathlib.Nat.{mul-le-mul}
 use native.Mathlib.Omega.{arith}
 use lib.Dec.{leb}
-use lib.IntN.{ℤ, pos}
-use lib.ListN.{length, getD, take, drop, List·getD-append}
+use lib.IntN.{ℤ}
+use lib.ListN.{length, take, drop, length-append, length-drop, List·getD-append}
 use lib.Seq.{take-at}
-use borrow.Author.Tests.{eq-eqb, le-leb, lt-leb, leb-true}
-use Rattle.arithmetic.specs.Bools.{case, clash}
+use borrow.Author.Tests.{eq-eqb, le-leb, lt-leb, leb-true, le-ltb}
+use Rattle.arithmetic.specs.Bools.{case, case<, case≡, clash}
 use Rattle.arithmetic.specs.Sum.{pick}
-use Rattle.arithmetic.specs.Table.{at, tab, matrix, written, length-tab, length-rows, tab-at, rows-ext}
+use Rattle.arithmetic.specs.Table.{at, tab, matrix, result, written, length-tab, length-rows, tab-at, tab-ext, rows-ext}
 use Rattle.graph.specs.Graph.{graph}
 use Rattle.graph.specs.Checks.{verticesOk, listsOk, check, graphRefusal}
-use Rattle.graph.specs.Accepted.{vertices-in, check-passed, not-refused}
-use Rattle.tree_checks.specs.Checks.{totalsOk, totalsEqual, measureRefusal, parentsOk, treeRefusal}
-use Rattle.spanning_tree.specs.Evaluate.{Given, given, evaluateRefusal, treePlan, Evaluated}
+use Rattle.graph.specs.Accepted.{vertices-in}
+use Rattle.tree_checks.specs.Checks.{measureRefusal, treeRefusal}
+use Rattle.transport_plan.specs.Plan.{moves}
 use Rattle.transport_plan.specs.PlanMoves.{moves-ext}
-use Rattle.optimal_transport.specs.Solve.{solveRefusal, bestPlan, Solved}
+use Rattle.spanning_tree.specs.Given.{Given, given}
+use Rattle.tree_evaluation.specs.Evaluate.{evaluateRefusal, Evaluated}
+use Rattle.spanning_tree.specs.TreeValue.{parentsHeld}
+use Rattle.duality.specs.Agree.{Same, SameTree, itself, same-tree, treeCost-same, potential-same, plan-same, measures-same, tree-same, best-same}
+use Rattle.duality.specs.BestCostLaws.{best-is}
+use Rattle.optimal_transport.specs.Solve.{solveRefusal, Solved}
 use Rattle.image.specs.Image.{sizeOk, sectionsOk, layoutOk, hasTree, vertexCount, edgeCount, lowerEnd, upperEnd, edgeLengthOf, amountBefore, amountAfter, rootOf, parentOf}
 use Rattle.image.specs.Read.{Lists, roomOk, readRefusal, Read}
 use Rattle.image.specs.ReadLaws.{Accepted, accepted, image-passes}
 use Rattle.host_record.specs.Record.{recordSize}
-use Rattle.weight_mover.specs.Run.{graphOf, answerRefusal, entryOf, imagePlan}
-use Rattle.weight_mover.specs.Agree.{Same, SameTree, itself, same-tree, treeCost-same, potential-same, plan-same, measures-same, parents-into, tree-same, best-same}
-use Rattle.weight_mover.specs.Answer.{WeighedFront, Weighed, Found, Answered}
+use Rattle.weight_mover.specs.Run.{graphOf, answerRefusal, weighedPotential}
+use Rattle.weight_mover.specs.Answer.{answerRoot, answerParent, answerPotential, answerPlan, Answered, Told, WeighedFront, SolvedFront}
+use Rattle.weight_mover.specs.Passed.{Passed, passed}
+use Rattle.weight_mover.specs.declared.answer.Answer.{Answer}
+
+-- ---- refusals
+
+-- after a refusal a lent table is as it came
+pub lent-back : {A : Type 0} (k : ℕ) (answer lent : List A) → (k ≡ 0 → ⊥) → written k answer lent ≡ lent
+lent-back zero answer lent d = absurd (d refl)
+lent-back (suc k) answer lent d = refl
+
+no-results : (k x y : ℕ) → (k ≡ 0 → ⊥) → result k x ≡ result k y
+no-results zero x y d = absurd (d refl)
+no-results (suc k) x y d = refl
+
+-- a tree holds what a table of parents reads below n
+held-same : (n : ℕ) (l m : List ℕ) → Same n (at l) (at m) → parentsHeld n l ≡ parentsHeld n m
+held-same n l m h =
+    tab-ext 64 _ _ (λ x _. case< x n (λ k. rw (h x k)) (λ k. rw (le-ltb x n k)))
+
+-- after a refusal it holds nothing
+none-held : (k n m : ℕ) (l o : List ℕ) → (k ≡ 0 → ⊥) → parentsHeld (result k n) l ≡ parentsHeld (result k m) o
+none-held zero n m l o d = absurd (d refl)
+none-held (suc k) n m l o d = held-same 0 l o (λ x h. absurd (omega arith))
+
+-- a refusal has no tree and no figures, whatever they would have been
+pub told-refused : {k n root marked cost moved : ℕ} {parents : List ℕ} {r : Answer} → (k ≡ 0 → ⊥) → Told k 0 0 [] 0 0 0 r
+    → Told k n root parents marked cost moved r
+told-refused {k = k} {n = n} {parents = parents} d t = record {
+  refusal = t .refusal;
+  n-is = t .n-is ∙ no-results _ _ _ d;
+  root-is = t .root-is ∙ no-results _ _ _ d;
+  parents-are = t .parents-are ∙ none-held k 0 n [] parents d;
+  given-is = t .given-is ∙ no-results _ _ _ d;
+  cost-is = t .cost-is ∙ no-results _ _ _ d;
+  moves-are = t .moves-are ∙ no-results _ _ _ d;
+}
+
+-- whatever the number is, nothing else is told
+pub told-none : (k : ℕ) (zeros : List ℕ) → zeros ≡ parentsHeld 0 []
+    → Told k 0 0 [] 0 0 0 (record { refusal = k; tree = record { n = 0; root = 0; parents = zeros }; given = 0; cost = 0; moves = 0 })
+told-none zero zeros e = record { refusal = refl; n-is = refl; root-is = refl; parents-are = e; given-is = refl; cost-is = refl; moves-are = refl }
+told-none (suc k) zeros e = record { refusal = refl; n-is = refl; root-is = refl; parents-are = e; given-is = refl; cost-is = refl; moves-are = refl }
+
+-- a success has them
+pub told-done : {k n root marked cost moved : ℕ} {parents : List ℕ} {r : Answer} → k ≡ 0 → r .refusal ≡ 0
+    → (r .tree .n ≡ n) × ((r .tree .root ≡ root) × (r .tree .parents ≡ parentsHeld n parents)) → r .given ≡ marked → r .cost ≡ cost
+    → r .moves ≡ moved → Told k n root parents marked cost moved r
+told-done z e t f g h =
+    rw z (record { refusal = e; n-is = t .0; root-is = t .1 .0; parents-are = t .1 .1; given-is = f; cost-is = g; moves-are = h })
+
+refused-answer : {s : List ℕ} {fits : Bool} {k n root marked cost moved : ℕ} {parents : List ℕ} {potentials potentials' : List ℤ}
+    {entries entries' : List ℕ} {r : Answer} → k ≡ answerRefusal s fits → (k ≡ 0 → ⊥) → Told k n root parents marked cost moved r
+    → potentials' ≡ potentials → entries' ≡ entries → Answered s fits potentials entries r potentials' entries'
+refused-answer {s} {k = k} {n = n} {parents = parents} e d t p q = record {
+  refusal = t .refusal ∙ e;
+  p = parentOf s;
+  u = weighedPotential s;
+  best = λ z _. absurd (d (sym (t .refusal) ∙ z));
+  n-is = rw (t .refusal) (t .n-is ∙ no-results _ _ _ d);
+  root-is = rw (t .refusal) (t .root-is ∙ no-results _ _ _ d);
+  parents-are = rw (t .n-is) (t .parents-are ∙ none-held k n n parents (tab (vertexCount s) (answerParent s (parentOf s))) d);
+  given-is = rw (t .refusal) (t .given-is ∙ no-results _ _ _ d);
+  cost-is = rw (t .refusal) (t .cost-is ∙ no-results _ _ _ d);
+  moves-are = rw (t .refusal) (t .moves-are ∙ no-results _ _ _ d);
+  potentials-are = p ∙ rw (t .refusal) (sym (lent-back _ _ _ d));
+  plan-is = q ∙ rw (t .refusal) (sym (lent-back _ _ _ d));
+}
 
 -- ---- what was read
 
@@ -89,14 +160,11 @@ too-short {s} a = sym (read-goes-on s false a ∙ rw (a .vertices, and-false (li
 front : {A : Type 0} (m n : ℕ) (f : ℕ → A) (l lent : List A) → m ≡ n → l ≡ written 0 (tab n f) lent → take m l ≡ tab n f
 front m n f l lent e h = rw (h, e) (take-at (tab n f) (drop (length (tab n f)) lent) n (length-tab n f))
 
-filled-at : {A : Type 0} (n : ℕ) (f : ℕ → A) (d : A) (l lent : List A) → l ≡ written 0 (tab n f) lent → (x : ℕ) → x < n → getD l x d ≡ f x
-filled-at n f d l lent h x k =
-    rw h (List·getD-append (tab n f) (drop (length (tab n f)) lent) d x (rw (length-tab n f) k) ∙ tab-at n f d x k)
-
--- a lent table in which a plan was written reads as the plan
-pub plan-entry : (n : ℕ) (t : ℕ → ℕ → ℕ) (l lent : List ℕ) → l ≡ written 0 (matrix n t) lent → (c : ℕ) → c < n * n → at l c ≡ entryOf n t c
-plan-entry n t l lent e c h =
-    rw e (List·getD-append (matrix n t) (drop (length (matrix n t)) lent) 0 c (rw (length-rows n n t) h))
+-- a tree made from a table that was filled
+filled-held : (n : ℕ) (f : ℕ → ℕ) (l lent : List ℕ) → l ≡ written 0 (tab n f) lent → parentsHeld n l ≡ parentsHeld n (tab n f)
+filled-held n f l lent h =
+    held-same n l (tab n f)
+    (λ x k. rw h (List·getD-append (tab n f) (drop (length (tab n f)) lent) 0 x (rw (length-tab n f) k)))
 
 -- what was read of the vertices below n
 module _ (s : List ℕ) where
@@ -109,8 +177,6 @@ module _ (s : List ℕ) where
   up : Same (vertexCount s) (at (tab (vertexCount s) (parentOf s))) (parentOf s)
   up x l = tab-at (vertexCount s) (parentOf s) 0 x l
 
--- ---- the answer of a weighed tree
-
 -- the tree of the image, as it is lent
 abbrev lent : List ℕ → Given
 lent s =
@@ -120,132 +186,119 @@ module _ {s : List ℕ} {t : Lists} (read : Accepted s t) where
   few : vertexCount s ≤ 64
   few = vertices-in (vertexCount s) (read .vertices) .1
 
-  room : (potentials : List ℤ) (entries : List ℕ) → 64 ≤ length potentials → 4096 ≤ length entries
+  room : (potentials : List ℤ) (entries : List ℕ) → length potentials ≡ 64 → length entries ≡ 4096
       → leb (vertexCount s) (length potentials) && leb (vertexCount s * vertexCount s) (length entries) ≡ true
   room potentials entries p e = rw (
     le-leb (vertexCount s) (length potentials) (omega (arith, few)),
     le-leb (vertexCount s * vertexCount s) (length entries) (omega (arith, mul-le-mul few few)),
   )
 
-  module _ (marked : hasTree s ≡ true) {imbalances imbalances' potentials potentials' : List ℤ} {entries entries' : List ℕ}
-      {k cost moved : ℕ} (long : length imbalances ≡ 64) (long-potentials : 64 ≤ length potentials) (long-entries : 4096 ≤ length entries)
-      (e : Evaluated (graphOf s) (lent s) imbalances potentials entries k cost moved imbalances' potentials' entries') where
-    weighed-number : k ≡ answerRefusal s true
-    unfolding evaluateRefusal
-    weighed-number =
-        let tables = rw (
-          eq-eqb _ _ (length-tab (vertexCount s) (amountBefore s)),
-          eq-eqb _ _ (length-tab (vertexCount s) (amountAfter s)),
-          eq-eqb _ _ (length-tab (vertexCount s) (parentOf s)),
-          le-leb (vertexCount s) (length imbalances) (omega (arith, few)),
-          room potentials entries long-potentials long-entries,
-          measures-same (vertexCount s) (before s) (after s),
-          tree-same (graphOf s) (rootOf s) (up s),
-        ) at (e .refusal) in
-        tables ∙ sym (read-goes-on s true read ∙ rw marked)
+  module _ {potentials potentials' : List ℤ} {entries entries' : List ℕ} (long-potentials : length potentials ≡ 64)
+      (long-entries : length entries ≡ 4096) {r : Answer} where
+    -- ---- the answer of a weighed tree
 
-    module _ (z : k ≡ 0) where
-      -- check 8
-      root-and-parents : (rootOf s < vertexCount s) × ((x : ℕ) → x < vertexCount s → parentOf s x < vertexCount s)
-      root-and-parents =
-          let g = not-refused (graphOf s) true _ (sym (read-goes-on s true read) ∙ sym weighed-number ∙ z) in
-          let six = check-passed 6 (totalsOk (vertexCount s) (amountBefore s) (amountAfter s)) _ (omega arith) (g .1 .1) in
-          let seven = check-passed 7 (totalsEqual (vertexCount s) (amountBefore s) (amountAfter s)) _ (omega arith) (six .1) in
-          let eight = check-passed 8 (parentsOk (vertexCount s) (rootOf s) (parentOf s)) _ (omega arith) (rw marked at (seven .1)) in
-          parents-into (graphOf s) (rootOf s) (λ x l. refl) (eight .0)
+    module _ (marked : hasTree s ≡ true) {imbalances imbalances' : List ℤ} {k cost moved : ℕ} (long : length imbalances ≡ 64)
+        (e : Evaluated (graphOf s) (lent s) imbalances potentials entries k cost moved imbalances' potentials' entries')
+        {parents : List ℕ} (held : parentsHeld (vertexCount s) parents ≡ parentsHeld (vertexCount s) (tab (vertexCount s) (parentOf s)))
+        (told : Told k (vertexCount s) (rootOf s) parents 1 cost moved r) where
+      weighed-number : k ≡ answerRefusal s true
+      unfolding evaluateRefusal
+      weighed-number =
+          let tables = rw (
+            eq-eqb _ _ (length-tab (vertexCount s) (amountBefore s)),
+            eq-eqb _ _ (length-tab (vertexCount s) (amountAfter s)),
+            eq-eqb _ _ (length-tab (vertexCount s) (parentOf s)),
+            le-leb (vertexCount s) (length imbalances) (omega (arith, few)),
+            room potentials entries long-potentials long-entries,
+            measures-same (vertexCount s) (before s) (after s),
+            tree-same (graphOf s) (rootOf s) (up s),
+          ) at (e .refusal) in
+          tables ∙ sym (read-goes-on s true read ∙ rw marked)
 
-      same : SameTree (vertexCount s) (rootOf s) (at (tab (vertexCount s) (parentOf s))) (parentOf s)
-      same = same-tree (up s) (λ x l. rw (up s x l) (root-and-parents .1 x l)) (rootOf s)
+      weighed-done : k ≡ 0 → Answered s true potentials entries r potentials' entries'
+      weighed-done z =
+          let into = passed s true (sym weighed-number ∙ z) .parents marked in
+          let same : SameTree (vertexCount s) (rootOf s) (at (tab (vertexCount s) (parentOf s))) (parentOf s)
+          = same-tree (up s) (λ x l. rw (up s x l) (into x l)) (rootOf s) in
+          let planned = plan-same same (before s) (after s) in
+          let w : Told 0 (vertexCount s) (rootOf s) parents 1 cost moved r = rw z at told in
+          record {
+            refusal = told .refusal ∙ weighed-number;
+            p = parentOf s;
+            u = weighedPotential s;
+            best = λ _ h. absurd (clash marked h);
+            n-is = rw (w .refusal) (w .n-is);
+            root-is = rw (w .refusal, marked) (w .root-is);
+            parents-are = rw (w .n-is, marked) (w .parents-are ∙ held);
+            given-is = rw (w .refusal, marked) (w .given-is);
+            cost-is = rw (w .refusal, marked) (w .cost-is ∙ rw z at (e .cost-is) ∙ treeCost-same (graphOf s) same (before s) (after s));
+            moves-are = rw (w .refusal, marked) (w .moves-are ∙ rw z at (e .moves-are) ∙ moves-ext (vertexCount s) _ _ planned);
+            potentials-are =
+                rw (
+                  w .refusal,
+                  marked,
+                  ← tab-ext (vertexCount s) _ (weighedPotential s) (potential-same (graphOf s) same (before s) (after s)),
+                ) (rw z at (e .potential-is));
+            plan-is =
+                rw (w .refusal, marked, ← rows-ext (vertexCount s) (vertexCount s) _ _ planned) (rw z at (e .plan-is));
+          }
 
-      planned : (i j : ℕ) → i < vertexCount s → j < vertexCount s → treePlan (graphOf s) (lent s) i j ≡ imagePlan s (rootOf s) (parentOf s) i j
-      planned = plan-same same (before s) (after s)
+      pub weighed-answer : Answered s true potentials entries r potentials' entries'
+      weighed-answer =
+          case≡ k 0 weighed-done
+          (λ d. refused-answer weighed-number d told (e .potential-is ∙ lent-back k _ _ d) (e .plan-is ∙ lent-back k _ _ d))
 
-      weighed : {parents : List ℕ} → Same (vertexCount s) (at parents) (parentOf s) → Weighed s (rootOf s) cost moved parents potentials' entries'
-      weighed back = record {
-        root-is = refl;
-        cost-is = rw z at (e .cost-is) ∙ treeCost-same (graphOf s) same (before s) (after s);
-        moves-are = rw z at (e .moves-are) ∙ moves-ext (vertexCount s) _ _ planned;
-        parents-are = back;
-        potential-is = λ y l.
-            filled-at (vertexCount s) _ (pos 0) potentials' potentials (rw z at (e .potential-is)) y l
-            ∙ potential-same (graphOf s) same (before s) (after s) y l;
-        plan-is = λ c l.
-            plan-entry (vertexCount s) _ entries' entries (rw z at (e .plan-is)) c l
-            ∙ ap (λ (m : List ℕ). at m c) (rows-ext (vertexCount s) (vertexCount s) _ _ planned);
-      }
+    -- ---- the best answer
 
-    pub weighed-answer : {parents : List ℕ} {n root tree : ℕ} → Same (vertexCount s) (at parents) (parentOf s) → n ≡ vertexCount s → root ≡ rootOf s → tree ≡ 1
-        → Answered s true k n root tree cost moved parents potentials' entries'
-    weighed-answer back i j o = record {
-      refusal = weighed-number;
-      vertices = λ z. (i, (omega (arith, few), omega (arith, root-and-parents z .0)));
-      tree-is = λ z. rw (o, marked);
-      weighed = λ z _. rw j (weighed z back);
-      solved = λ z h. absurd (clash marked h);
-    }
+    module _ (unmarked : hasTree s ≡ false) {parents parents' : List ℕ} {k cost moved : ℕ} (long : length parents ≡ 64)
+        (e : Solved (graphOf s) (tab (vertexCount s) (amountBefore s)) (tab (vertexCount s) (amountAfter s)) parents potentials entries
+        k cost moved parents' potentials' entries') (told : Told k (vertexCount s) 0 parents' 0 cost moved r) where
+      solved-number : k ≡ answerRefusal s true
+      unfolding solveRefusal
+      solved-number =
+          let tables = rw (
+            eq-eqb _ _ (length-tab (vertexCount s) (amountBefore s)),
+            eq-eqb _ _ (length-tab (vertexCount s) (amountAfter s)),
+            le-leb (vertexCount s) (length parents) (omega (arith, few)),
+            room potentials entries long-potentials long-entries,
+            measures-same (vertexCount s) (before s) (after s),
+          ) at (e .refusal) in
+          tables ∙ sym (read-goes-on s true read ∙ rw unmarked)
 
-  -- ---- the best answer
+      solved-done : k ≡ 0 → Answered s true potentials entries r potentials' entries'
+      solved-done z =
+          let planned = plan-same (itself (vertexCount s) 0 (e .p)) (before s) (after s) in
+          let b = best-same (before s) (after s) planned (e .best z) in
+          let cost-is = best-is (graphOf s) (amountBefore s) (amountAfter s) (passed s true (sym solved-number ∙ z) .accepted) b in
+          let w : Told 0 (vertexCount s) 0 parents' 0 cost moved r = rw z at told in
+          record {
+            refusal = told .refusal ∙ solved-number;
+            p = e .p;
+            u = e .u;
+            best = λ _ _. rw (← cost-is) b;
+            n-is = rw (w .refusal) (w .n-is);
+            root-is = rw (w .refusal, unmarked) (w .root-is);
+            parents-are = rw (w .n-is, unmarked) (w .parents-are ∙ filled-held (vertexCount s) (e .p) parents' parents (rw z at (e .parents-are)));
+            given-is = rw (w .refusal, unmarked) (w .given-is);
+            cost-is = rw (w .refusal, unmarked) (w .cost-is ∙ rw z at (e .cost-is) ∙ cost-is);
+            moves-are = rw (w .refusal, unmarked) (w .moves-are ∙ rw z at (e .moves-are) ∙ moves-ext (vertexCount s) _ _ planned);
+            potentials-are = rw (w .refusal, unmarked) (rw z at (e .potentials-are));
+            plan-is =
+                rw (w .refusal, unmarked, ← rows-ext (vertexCount s) (vertexCount s) _ _ planned) (rw z at (e .plan-is));
+          }
 
-  module _ (unmarked : hasTree s ≡ false) {potentials potentials' : List ℤ} {entries entries' parents parents' : List ℕ} {k cost moved : ℕ}
-      (long-parents : 64 ≤ length parents) (long-potentials : 64 ≤ length potentials) (long-entries : 4096 ≤ length entries)
-      (e : Solved (graphOf s) (tab (vertexCount s) (amountBefore s)) (tab (vertexCount s) (amountAfter s)) parents potentials entries
-      k cost moved parents' potentials' entries') where
-    solved-number : k ≡ answerRefusal s true
-    unfolding solveRefusal
-    solved-number =
-        let tables = rw (
-          eq-eqb _ _ (length-tab (vertexCount s) (amountBefore s)),
-          eq-eqb _ _ (length-tab (vertexCount s) (amountAfter s)),
-          le-leb (vertexCount s) (length parents) (omega (arith, few)),
-          room potentials entries long-potentials long-entries,
-          measures-same (vertexCount s) (before s) (after s),
-        ) at (e .refusal) in
-        tables ∙ sym (read-goes-on s true read ∙ rw unmarked)
-
-    best-planned : (i j : ℕ) → i < vertexCount s → j < vertexCount s
-        → bestPlan (graphOf s) (tab (vertexCount s) (amountBefore s)) (tab (vertexCount s) (amountAfter s)) parents' i j
-        ≡ imagePlan s 0 (at parents') i j
-    best-planned = plan-same (itself (vertexCount s) 0 (at parents')) (before s) (after s)
-
-    found : k ≡ 0 → Found s 0 cost moved parents' potentials' entries'
-    found z =
-        let a = e .accepted z in
-        record {
-          root-is = refl;
-          best = best-same (before s) (after s) best-planned (a .best);
-          moves-are = a .moves-are ∙ moves-ext (vertexCount s) _ _ best-planned;
-          plan-is = λ c l.
-              plan-entry (vertexCount s) _ entries' entries (a .plan-is) c l
-              ∙ ap (λ (m : List ℕ). at m c) (rows-ext (vertexCount s) (vertexCount s) _ _ best-planned);
-        }
-
-    pub solved-answer : {n root tree : ℕ} → n ≡ vertexCount s → root ≡ 0 → tree ≡ 0
-        → Answered s true k n root tree cost moved parents' potentials' entries'
-    solved-answer i j o = record {
-      refusal = solved-number;
-      vertices = λ z. (i, (omega (arith, few), omega (arith, vertices-in (vertexCount s) (read .vertices) .0)));
-      tree-is = λ z. rw (o, unmarked);
-      weighed = λ z h. absurd (clash h unmarked);
-      solved = λ z _. rw j (found z);
-    }
+      pub solved-answer : Answered s true potentials entries r potentials' entries'
+      solved-answer =
+          case≡ k 0 solved-done
+          (λ d. refused-answer solved-number d told (e .potentials-are ∙ lent-back k _ _ d) (e .plan-is ∙ lent-back k _ _ d))
 
 -- ---- the answer of an image
 
-module _ {s : List ℕ} {fits : Bool} {k n root tree cost moved : ℕ} {parents : List ℕ} {potentials : List ℤ} {entries : List ℕ} where
-  refused-answer : k ≡ answerRefusal s fits → (k ≡ 0 → ⊥) → Answered s fits k n root tree cost moved parents potentials entries
-  refused-answer e d = record {
-    refusal = e;
-    vertices = λ z. absurd (d z);
-    tree-is = λ z. absurd (d z);
-    weighed = λ z _. absurd (d z);
-    solved = λ z _. absurd (d z);
-  }
-
 module _ {s : List ℕ} {t t' : Lists} {first n m root tree : ℕ} (read : Read s t first n m root tree t') where
   -- it was not read
-  pub not-read : Wide t → (first ≡ 0 → ⊥) → {fits : Bool} {k n' root' tree' cost moved : ℕ} {parents : List ℕ} {potentials : List ℤ}
-      {entries : List ℕ} → k ≡ first → Answered s fits k n' root' tree' cost moved parents potentials entries
-  not-read w d {fits} e = refused-answer (e ∙ read-refused s fits w (read .refusal) d) (λ z. d (sym e ∙ z))
+  pub not-read : Wide t → (first ≡ 0 → ⊥) → {fits : Bool} {potentials : List ℤ} {entries : List ℕ} {r : Answer}
+      → Told first 0 0 [] 0 0 0 r → Answered s fits potentials entries r potentials entries
+  not-read w d {fits} told = refused-answer (read-refused s fits w (read .refusal) d) d told refl refl
 
   module _ (z : first ≡ 0) where
     was-read : Accepted s t
@@ -264,12 +317,11 @@ module _ {s : List ℕ} {t t' : Lists} {first n m root tree : ℕ} (read : Read 
     m-most = omega (arith, m-is, was-read .edges)
 
     -- the buffer is too short
-    pub not-fitting : {room : ℕ} → room < recordSize n → {k n' root' tree' cost moved : ℕ} {parents : List ℕ} {potentials : List ℤ}
-        {entries : List ℕ} → k ≡ 2
-        → Answered s (leb (recordSize (vertexCount s)) room) k n' root' tree' cost moved parents potentials entries
-    not-fitting {room} h {k} e =
+    pub not-fitting : {room : ℕ} → room < recordSize n → {potentials : List ℤ} {entries : List ℕ} {r : Answer}
+        → Told 2 0 0 [] 0 0 0 r → Answered s (leb (recordSize (vertexCount s)) room) potentials entries r potentials entries
+    not-fitting {room} h told =
         let l : leb (recordSize (vertexCount s)) room ≡ false = rw (← n-is) (lt-leb (recordSize n) room h) in
-        rw l (refused-answer (e ∙ too-short was-read) (λ y. omega arith))
+        rw l (refused-answer (too-short was-read) (λ y. omega arith) told refl refl)
 
     fitting : (room : ℕ) → recordSize n ≤ room → leb (recordSize (vertexCount s)) room ≡ true
     fitting room h = rw (← n-is) (le-leb (recordSize n) room h)
@@ -292,29 +344,57 @@ module _ {s : List ℕ} {t t' : Lists} {first n m root tree : ℕ} (read : Read 
     marked-is : tree ≡ pick (hasTree s) 1
     marked-is = rw z at (read .tree-is)
 
-    module _ {room : ℕ} (fits : recordSize n ≤ room) {k cost moved : ℕ} {potentials potentials' : List ℤ} {entries entries' : List ℕ}
-        (long-potentials : 64 ≤ length potentials) (long-entries : 4096 ≤ length entries) where
+    module _ {room : ℕ} (fits : recordSize n ≤ room) {potentials potentials' : List ℤ} {entries entries' : List ℕ} {r : Answer} where
       -- it has a tree
       pub weighed-read : (tree ≡ 0 → ⊥) → WeighedFront n m (t' .lower) (t' .upper) (t' .lengths) (t' .mu) (t' .nu) root (t' .parents)
-          potentials entries k cost moved potentials' entries' → {n' root' tree' : ℕ} → (n' ≡ n) × (root' ≡ root) × (tree' ≡ 1)
-          → Answered s (leb (recordSize (vertexCount s)) room) k n' root' tree' cost moved (t' .parents) potentials' entries'
-      weighed-read d w i =
+          potentials entries r potentials' entries'
+          → Answered s (leb (recordSize (vertexCount s)) room) potentials entries r potentials' entries'
+      weighed-read d w =
           let marked : hasTree s ≡ true = case (hasTree s) (λ e. e) (λ e. absurd (d (marked-is ∙ rw e))) in
           let root-is : root ≡ rootOf s = rw (z, marked) at (read .root-is) in
           let ps = rw (z, marked) at (read .parents-are) in
           let up-front = front n (vertexCount s) (parentOf s) (t' .parents) (t .parents) n-is ps in
           let e = rw (lower-front, upper-front, lengths-front, mu-front, nu-front, up-front, n-is, root-is) at (w .evaluated) in
           rw (fitting room fits)
-          (weighed-answer was-read marked (w .long) long-potentials long-entries e
-          (filled-at (vertexCount s) (parentOf s) 0 (t' .parents) (t .parents) ps) (i .0 ∙ n-is) (i .1 ∙ root-is) (i .2))
+          (weighed-answer was-read (w .long-potentials) (w .long-entries) marked (w .long) e (filled-held (vertexCount s) (parentOf s) (t' .parents) (t .parents) ps)
+          (rw (n-is, root-is) at (w .told)))
 
       -- it has none
-      pub solved-read : tree ≡ 0 → 64 ≤ length (t' .parents) → {parents' : List ℕ}
-          → Solved (graph n (take m (t' .lower)) (take m (t' .upper)) (take m (t' .lengths))) (take n (t' .mu)) (take n (t' .nu))
-          (t' .parents) potentials entries k cost moved parents' potentials' entries'
-          → {n' root' tree' : ℕ} → (n' ≡ n) × (root' ≡ 0) × (tree' ≡ 0)
-          → Answered s (leb (recordSize (vertexCount s)) room) k n' root' tree' cost moved parents' potentials' entries'
-      solved-read d long-parents w i =
+      pub solved-read : tree ≡ 0 → SolvedFront n m (t' .lower) (t' .upper) (t' .lengths) (t' .mu) (t' .nu) potentials entries r potentials' entries'
+          → Answered s (leb (recordSize (vertexCount s)) room) potentials entries r potentials' entries'
+      solved-read d w =
           let unmarked : hasTree s ≡ false = case (hasTree s) (λ e. absurd (let y : tree ≡ 1 = marked-is ∙ rw e in omega arith)) (λ e. e) in
-          let e = rw (lower-front, upper-front, lengths-front, mu-front, nu-front, n-is) at w in
-          rw (fitting room fits) (solved-answer was-read unmarked long-parents long-potentials long-entries e (i .0 ∙ n-is) (i .1) (i .2))
+          let e = rw (lower-front, upper-front, lengths-front, mu-front, nu-front, n-is) at (w .solved) in
+          rw (fitting room fits) (solved-answer was-read (w .long-potentials) (w .long-entries) unmarked (w .long) e (rw n-is at (w .told)))
+
+-- ---- what is known of an answer that was not refused
+
+filled-long : {A : Type 0} (answer lent l : List A) → length answer ≤ length lent → l ≡ written 0 answer lent → length l ≡ length lent
+filled-long answer lent l h e = rw (e, length-append, length-drop) (omega arith)
+
+module _ {s : List ℕ} {fits : Bool} {potentials potentials' : List ℤ} {entries entries' : List ℕ} {r : Answer}
+    (a : Answered s fits potentials entries r potentials' entries') (z : r .refusal ≡ 0) where
+  pub passes : Passed s fits
+  passes = passed s fits (sym (a .refusal) ∙ z)
+
+  pub answer-n : r .tree .n ≡ vertexCount s
+  answer-n = rw z at (a .n-is)
+
+  pub answer-root : r .tree .root ≡ answerRoot s
+  answer-root = rw z at (a .root-is)
+
+  pub root-below : r .tree .root < r .tree .n
+  root-below = rw (answer-n, answer-root) (passes .root)
+
+  pub answer-few : (r .tree .n ≤ 64) × (r .tree .n * r .tree .n ≤ 4096)
+  answer-few = let few = passes .few in rw answer-n (few, omega (arith, mul-le-mul few few))
+
+  pub potentials-long : length potentials ≡ 64 → length potentials' ≡ 64
+  potentials-long h =
+      let few = passes .few in
+      filled-long (tab (vertexCount s) (answerPotential s (a .u))) potentials potentials' (rw length-tab (omega arith)) (rw z at (a .potentials-are)) ∙ h
+
+  pub plan-long : length entries ≡ 4096 → length entries' ≡ 4096
+  plan-long h =
+      let few = passes .few in
+      filled-long (matrix (vertexCount s) (answerPlan s (a .p))) entries entries' (rw length-rows (omega (arith, mul-le-mul few few))) (rw z at (a .plan-is)) ∙ h

@@ -1,5 +1,5 @@
 pub mod Run
-pub mod Agree
 pub mod Answer
+pub mod Passed
 pub mod AnswerLaws
 pub mod RunLaws

@@ -1,7 +1,7 @@
 -- The exported entry: its refusal number, and its whole outcome. s is the image's bytes.
 use Prim.Native.Nat.{ℕ}
 use mathlib.Core.Path.{_≡_}
-use mathlib.Core.Bool.{Bool, true, false, cond}
+use mathlib.Core.Bool.{Bool, false, cond}
 use mathlib.Core.List.{List}
 use lib.ListN.{length}
 use lib.Dec.{leb}
@@ -10,12 +10,13 @@ use Rattle.arithmetic.specs.Table.{at, tab, matrix, written}
 use Rattle.graph.specs.Graph.{Graph, graph}
 use Rattle.graph.specs.Checks.{graphRefusal}
 use Rattle.tree_checks.specs.Checks.{measureRefusal, treeRefusal}
-use Rattle.spanning_tree.specs.Weigh.{potential, treeCost}
+use Rattle.tree_evaluation.specs.Weigh.{potential, treeCost}
 use Rattle.transport_plan.specs.Plan.{plan, moves}
 use Rattle.duality.specs.Best.{Best}
+use Rattle.duality.specs.BestCost.{bestCost}
 use Rattle.image.specs.Image.{hasTree, vertexCount, edgeCount, lowerEnd, upperEnd, edgeLengthOf, amountBefore, amountAfter, rootOf, parentOf}
 use Rattle.image.specs.Read.{imageRefusal}
-use Rattle.host_record.specs.Record.{record-bytes, recordSize}
+use Rattle.host_record.specs.Record.{recordBytes, recordSize}
 
 -- the graph of an image
 abbrev pub graphOf : List ℕ → Graph
@@ -45,30 +46,42 @@ imagePlan s root parent = plan (vertexCount s) root parent (amountBefore s) (amo
 -- its record
 abbrev pub planRecord : List ℕ → ℕ → ℕ → (ℕ → ℕ) → (ℕ → ℤ) → List ℕ
 planRecord s cost root parent u =
-    record-bytes (vertexCount s) cost (moves (vertexCount s) (imagePlan s root parent)) root parent u
+    recordBytes (vertexCount s) cost (moves (vertexCount s) (imagePlan s root parent)) root parent u
     (entryOf (vertexCount s) (imagePlan s root parent))
 
--- the cost of the tree of an image
+-- the cost and the potential of the tree of an image
 abbrev pub weighedCost : List ℕ → ℕ
 weighedCost s = treeCost (graphOf s) (rootOf s) (parentOf s) (amountBefore s) (amountAfter s)
 
+abbrev pub weighedPotential : List ℕ → ℕ → ℤ
+weighedPotential s = potential (graphOf s) (rootOf s) (parentOf s) (amountBefore s) (amountAfter s)
+
 -- the record of an image with a tree
 unfoldable pub weighedRecord : List ℕ → List ℕ
-weighedRecord s =
-    planRecord s (weighedCost s) (rootOf s) (parentOf s)
-    (potential (graphOf s) (rootOf s) (parentOf s) (amountBefore s) (amountAfter s))
+weighedRecord s = planRecord s (weighedCost s) (rootOf s) (parentOf s) (weighedPotential s)
 
--- a record of the best answer to an image without a tree: it carries demand 3
-pub record BestRecord (s : List ℕ) (bytes : List ℕ) : Type 0 where
-  pub cost : ℕ
-  pub parents : ℕ → ℕ
-  pub u : ℕ → ℤ
-  pub best : Best (graphOf s) (amountBefore s) (amountAfter s) parents (imagePlan s 0 parents) u cost
-  pub bytes-are : bytes ≡ planRecord s cost 0 parents u
+-- the best cost of an image
+abbrev pub imageBestCost : List ℕ → ℕ
+imageBestCost s = bestCost (graphOf s) (amountBefore s) (amountAfter s)
+
+-- demand 3 of a tree with root 0 and the parents p, its plan, a potential u and the best cost
+abbrev pub BestAnswer : List ℕ → (ℕ → ℕ) → (ℕ → ℤ) → Type 0
+BestAnswer s p u = Best (graphOf s) (amountBefore s) (amountAfter s) p (imagePlan s 0 p) u (imageBestCost s)
+
+-- the record of this answer
+abbrev pub bestRecord : List ℕ → (ℕ → ℕ) → (ℕ → ℤ) → List ℕ
+bestRecord s p u = planRecord s (imageBestCost s) 0 p u
+
+-- "An image with a tree is weighed, one without gets the best answer"
+abbrev pub answerRecord : List ℕ → (ℕ → ℕ) → (ℕ → ℤ) → List ℕ
+answerRecord s p u = cond (hasTree s) (weighedRecord s) (bestRecord s p u)
 
 -- the whole outcome: the refusal number k, and the buffer as it comes back
 pub record Ran (s buffer : List ℕ) (k : ℕ) (buffer' : List ℕ) : Type 0 where
   pub refusal : k ≡ runRefusal s buffer
-  pub refused : (k ≡ 0 → ⊥) → buffer' ≡ buffer
-  pub weighed : k ≡ 0 → hasTree s ≡ true → buffer' ≡ written 0 (weighedRecord s) buffer
-  pub solved : k ≡ 0 → hasTree s ≡ false → (bytes : List ℕ) × (BestRecord s bytes × (buffer' ≡ written 0 bytes buffer))
+  -- "Which of several best trees comes back is free, and so is the potential between those that meet mission demand 3"
+  pub p : ℕ → ℕ
+  pub u : ℕ → ℤ
+  pub best : k ≡ 0 → hasTree s ≡ false → BestAnswer s p u
+  -- all else follows from these two
+  pub buffer-is : buffer' ≡ written k (answerRecord s p u) buffer

@@ -1,23 +1,22 @@
 // The answer to an image: read, weighed or solved, into lent tables.
 ghost use mathlib.Core.Path.{_≡_};
+ghost use mathlib.Core.List.{[]};
 ghost use Prim.Native.Nat.{_≤_};
-ghost use lib.ListN.{length, take};
+ghost use lib.ListN.{length};
 ghost use lib.Dec.{leb};
-ghost use Rattle.graph.specs.Graph.{graph};
-ghost use Rattle.optimal_transport.specs.Solve.{Solved};
 ghost use Rattle.image.specs.Image.{vertexCount};
 ghost use Rattle.host_record.specs.Record.{recordSize};
-ghost use Rattle.weight_mover.specs.Answer.{WeighedFront, Answered};
+ghost use Rattle.weight_mover.specs.Answer.{Told, WeighedFront, SolvedFront, Answered};
 use image::read;
 use optimal_transport::solve;
-use spanning_tree::evaluate;
+use spanning_tree::tree::Tree;
+use tree_evaluation::evaluate;
 
-// 0 or a refusal number, with n, the tree's root, 1 for a tree in the image, cost and moves
+// 0 or a refusal number, with the tree, 1 if the image gave it, cost and moves
 pub struct Answer {
     pub refusal: u32,
-    pub n: usize,
-    pub root: usize,
-    pub tree: u32,
+    pub tree: Tree,
+    pub given: u32,
     pub cost: u64,
     pub moves: u32,
 }
@@ -30,14 +29,18 @@ fn record_size(n: usize) -> usize
     4 * (n * n) + 5 * n + 13
 }
 
+// A refusal: all other results are 0.
 fn refused(refusal: u32) -> Answer
-    ensures { λ r. ⌜ r .refusal ≡ refusal ⌝ }
+    ensures { λ r. ⌜ Told refusal 0 0 [] 0 0 0 r ⌝ }
 {
     Answer {
-        refusal: refusal,
-        n: 0,
-        root: 0,
-        tree: 0,
+        refusal,
+        tree: Tree {
+            n: 0,
+            root: 0,
+            parents: [0u32; 64],
+        },
+        given: 0,
         cost: 0,
         moves: 0,
     }
@@ -54,15 +57,13 @@ fn weigh_front(
     nu: &[u64],
     root: usize,
     parents: &[u32],
-    potential: &mut [i32],
-    plan: &mut [u32],
+    potential: &mut [i32; 64],
+    plan: &mut [u32; 4096],
 ) -> Answer
     requires { ⌜ (m ≤ length (now a)) × (m ≤ length (now b)) × (m ≤ length (now lengths))
         × (n ≤ length (now mu)) × (n ≤ length (now nu)) × (n ≤ length (now parents)) ⌝ }
     ensures { λ r. ⌜ WeighedFront n m (now (a .entry)) (now (b .entry)) (now (lengths .entry)) (now (mu .entry)) (now (nu .entry))
-        root (now (parents .entry)) (now (potential .entry)) (now (plan .entry)) (r .refusal) (r .cost) (r .moves)
-        (now (potential .exit)) (now (plan .exit)) ⌝ }
-    ensures { λ r. ⌜ (r .n ≡ n) × (r .root ≡ root) × (r .tree ≡ 1) ⌝ }
+        root (now (parents .entry)) (now (potential .entry)) (now (plan .entry)) r (now (potential .exit)) (now (plan .exit)) ⌝ }
 {
     let mut imbalance = [0i32; 64];
     let weighed = evaluate(
@@ -78,11 +79,13 @@ fn weigh_front(
         potential,
         plan,
     );
+    if weighed.refusal != 0 {
+        return refused(weighed.refusal);
+    }
     Answer {
-        refusal: weighed.refusal,
-        n,
-        root,
-        tree: 1,
+        refusal: 0,
+        tree: Tree::new(n, root, parents),
+        given: 1,
         cost: weighed.cost,
         moves: weighed.moves,
     }
@@ -97,17 +100,15 @@ fn solve_front(
     lengths: &[u32],
     mu: &[u64],
     nu: &[u64],
-    parents: &mut [u32],
-    potential: &mut [i32],
-    plan: &mut [u32],
+    potential: &mut [i32; 64],
+    plan: &mut [u32; 4096],
 ) -> Answer
     requires { ⌜ (m ≤ length (now a)) × (m ≤ length (now b)) × (m ≤ length (now lengths))
         × (n ≤ length (now mu)) × (n ≤ length (now nu)) ⌝ }
-    ensures { λ r. ⌜ Solved (graph n (take m (now (a .entry))) (take m (now (b .entry))) (take m (now (lengths .entry))))
-        (take n (now (mu .entry))) (take n (now (nu .entry))) (now (parents .entry)) (now (potential .entry)) (now (plan .entry))
-        (r .refusal) (r .cost) (r .moves) (now (parents .exit)) (now (potential .exit)) (now (plan .exit)) ⌝ }
-    ensures { λ r. ⌜ (r .n ≡ n) × (r .root ≡ 0) × (r .tree ≡ 0) ⌝ }
+    ensures { λ r. ⌜ SolvedFront n m (now (a .entry)) (now (b .entry)) (now (lengths .entry)) (now (mu .entry)) (now (nu .entry))
+        (now (potential .entry)) (now (plan .entry)) r (now (potential .exit)) (now (plan .exit)) ⌝ }
 {
+    let mut parents = [0u32; 64];
     let best = solve(
         n,
         &a[..m],
@@ -115,15 +116,17 @@ fn solve_front(
         &lengths[..m],
         &mu[..n],
         &nu[..n],
-        parents,
+        &mut parents,
         potential,
         plan,
     );
+    if best.refusal != 0 {
+        return refused(best.refusal);
+    }
     Answer {
-        refusal: best.refusal,
-        n,
-        root: 0,
-        tree: 0,
+        refusal: 0,
+        tree: Tree::new(n, 0, &parents),
+        given: 0,
         cost: best.cost,
         moves: best.moves,
     }
@@ -133,21 +136,27 @@ fn solve_front(
 pub fn answer_image(
     image: &[u8],
     room: usize,
-    parents: &mut [u32],
-    potential: &mut [i32],
-    plan: &mut [u32],
+    potential: &mut [i32; 64],
+    plan: &mut [u32; 4096],
 ) -> Answer
-    requires { ⌜ (64 ≤ length (now parents)) × (64 ≤ length (now potential)) × (4096 ≤ length (now plan)) ⌝ }
     ensures { λ r. ⌜ Answered (now (image .entry)) (leb (recordSize (vertexCount (now (image .entry)))) room)
-        (r .refusal) (r .n) (r .root) (r .tree) (r .cost) (r .moves)
-        (now (parents .exit)) (now (potential .exit)) (now (plan .exit)) ⌝ }
+        (now (potential .entry)) (now (plan .entry)) r (now (potential .exit)) (now (plan .exit)) ⌝ }
 {
     let mut a = [0u32; 512];
     let mut b = [0u32; 512];
     let mut l = [0u32; 512];
     let mut mu = [0u64; 64];
     let mut nu = [0u64; 64];
-    let found = read(image, &mut a, &mut b, &mut l, &mut mu, &mut nu, parents);
+    let mut parents = [0u32; 64];
+    let found = read(
+        image,
+        &mut a,
+        &mut b,
+        &mut l,
+        &mut mu,
+        &mut nu,
+        &mut parents,
+    );
     if found.refusal != 0 {
         return refused(found.refusal);
     }
@@ -158,7 +167,7 @@ pub fn answer_image(
         return refused(2);
     }
     if found.tree == 0 {
-        return solve_front(n, m, &a, &b, &l, &mu, &nu, parents, potential, plan);
+        return solve_front(n, m, &a, &b, &l, &mu, &nu, potential, plan);
     }
-    weigh_front(n, m, &a, &b, &l, &mu, &nu, root, parents, potential, plan)
+    weigh_front(n, m, &a, &b, &l, &mu, &nu, root, &parents, potential, plan)
 }

@@ -10,19 +10,16 @@ use host_record::write_record;
 pub extern "C" fn mover_run(image: &[u8], buffer: &mut [u8]) -> u32
     ensures { λ r. ⌜ Ran (now (image .entry)) (now (buffer .entry)) r (now (buffer .exit)) ⌝ }
 {
-    let mut parents = [0u32; 64];
     let mut potential = [0i32; 64];
     let mut plan = [0u32; 4096];
-    let found = answer_image(image, buffer.len(), &mut parents, &mut potential, &mut plan);
+    let found = answer_image(image, buffer.len(), &mut potential, &mut plan);
     if found.refusal != 0 {
         return found.refusal;
     }
     write_record(
-        found.n,
         found.cost,
         found.moves,
-        found.root as u32,
-        &parents,
+        found.tree,
         &potential,
         &plan,
         buffer,

@@ -1,25 +1,32 @@
--- What a case's certificate shows: the best cost, for all plans and all spanning trees, and the judgment.
+-- What the table shows: demand 3 holds of the certificate of every case, and of every image, that has one.
 use Prim.Native.Nat.{ℕ}
 use mathlib.Core.Path.{_≡_, refl, sym, ap, _∙_}
-use mathlib.Core.Bool.{true, _&&_}
-use mathlib.Core.Logic.{_⊎_, inl, inr}
-use native.Mathlib.Omega.{arith}
-use lib.Dec.{eqb, ltb}
+use mathlib.Core.Bool.{Bool, true}
+use mathlib.Core.Logic.{⊎-elim}
+use mathlib.Core.List.{List, [], _∷_, List·Memᴰ, List·Memᴰ·not-nil, List·Memᴰ·cases-cons}
+use lib.Dec.{eqb}
 use lib.IntN.{ℤ, pos, negsuc}
-use borrow.Author.Tests.{eqb-true, ltb-true, leb-true}
-use Rattle.arithmetic.specs.Bools.{and-l, and-r, or-elim, clash, all, all-at}
+use borrow.Author.Tests.{eqb-true, leb-true}
+use Rattle.arithmetic.specs.Bools.{and-l, and-r, clash, all, all-at}
 use Rattle.arithmetic.specs.Sum.{sum}
 use Rattle.arithmetic.specs.Table.{at}
 use Rattle.graph.specs.Graph.{Graph, edges}
-use Rattle.graph.specs.Accepted.{Accepted}
-use Rattle.tree_checks.specs.Checks.{treeRefusal}
+use Rattle.graph.specs.Accepted.{Accepted, not-refused}
+use Rattle.tree_checks.specs.Checks.{totalsOk, totalsEqual, treeRefusal}
 use Rattle.tree_checks.specs.TreeTests.{accepted-spanning}
-use Rattle.spanning_tree.specs.Weigh.{treeCost}
+use Rattle.tree_evaluation.specs.Weigh.{treeCost}
+use Rattle.spanning_tree.specs.Given.{givenRefusal}
+use Rattle.spanning_tree.specs.GivenLaws.{given-passed, two-passed, equal-in}
 use Rattle.transport_plan.specs.Plan.{plan}
-use Rattle.duality.specs.Best.{Best, LeastTree}
-use Rattle.optimal_transport.specs.Judge.{CheaperTree}
-use Rattle.duality.specs.BestLaws.{certified-best}
-use Rattle.worked_cases.specs.Figures.{Certificate, sameℤ, potentialOf, withinEdge, certifies, said, judges}
+use Rattle.duality.specs.Best.{Best}
+use Rattle.duality.specs.BestCost.{bestCost}
+use Rattle.duality.specs.BestLaws.{IntegerCertificate, certified-best}
+use Rattle.image.specs.Image.{vertexCount, amountBefore, amountAfter}
+use Rattle.image.specs.ReadLaws.{image-passed}
+use Rattle.weight_mover.specs.Run.{graphOf, answerRefusal, runRefusal, BestAnswer}
+use Rattle.worked_cases.specs.Figures.{Case, Bytes, Certificate, said, sameℤ, potentialOf, withinEdge, certifies, certified, holds, reads, room, every}
+use Rattle.worked_cases.specs.Cases.{cases, images}
+use Rattle.worked_cases.specs.Theorem.{cases-hold}
 
 sameℤ-eq : (x y : ℤ) → sameℤ x y ≡ true → x ≡ y
 sameℤ-eq (pos a) (pos b) h = ap pos (eqb-true a b h)
@@ -27,38 +34,96 @@ sameℤ-eq (pos a) (negsuc b) h = clash h refl
 sameℤ-eq (negsuc a) (pos b) h = clash h refl
 sameℤ-eq (negsuc a) (negsuc b) h = ap negsuc (eqb-true a b h)
 
--- the certificate's cost is the best
-module _ (g : Graph) (acc : Accepted g) (mu nu : ℕ → ℕ) (same : sum (g .n) mu ≡ sum (g .n) nu) (c : Certificate) where
-  pub case-best : certifies g mu nu c ≡ true
-      → Best g mu nu (at (c .parents)) (plan (g .n) 0 (at (c .parents)) mu nu) (potentialOf c) (c .cost)
-  unfolding certifies
-  case-best h =
-      let h2 = and-r (eqb (treeRefusal g 0 (at (c .parents))) 0) _ h in
-      let h3 = and-r (eqb (treeCost g 0 (at (c .parents)) mu nu) (c .cost)) _ h2 in
-      let h4 = and-r (sameℤ (potentialOf c 0) (pos 0)) _ h3 in
-      let cost-is : treeCost g 0 (at (c .parents)) mu nu ≡ c .cost = eqb-true _ _ (and-l (eqb (treeCost g 0 (at (c .parents)) mu nu) (c .cost)) _ h2) in
-      rw cost-is at (certified-best g acc mu nu (at (c .parents)) (potentialOf c) same
-      (accepted-spanning g 0 (at (c .parents)) (eqb-true _ _ (and-l (eqb (treeRefusal g 0 (at (c .parents))) 0) _ h)))
-      (sameℤ-eq _ _ (and-l (sameℤ (potentialOf c 0) (pos 0)) _ h3))
-      (λ e l. leb-true _ _ (all-at (edges g) (withinEdge g c) (and-l (all (edges g) (withinEdge g c)) _ h4) e l))
-      (sameℤ-eq _ _ (and-r (all (edges g) (withinEdge g c)) _ h4) ∙ ap pos (sym cost-is)))
+-- a test of a whole list holds of what is in it
+every-at : {A : Type 0} (f : A → Bool) (l : List A) → every f l ≡ true → {x : A} → List·Memᴰ x l → f x ≡ true
+unfolding every
+every-at f [] h m = absurd (List·Memᴰ·not-nil m)
+every-at f (y ∷ l) h m =
+    ⊎-elim (λ e. ap f e ∙ and-l (f y) _ h) (λ k. every-at f l (and-r (f y) _ h) k) (List·Memᴰ·cases-cons m)
 
-  -- and the judgment of a tree of the given cost is right
-  pub case-judged : (cost k : ℕ) → certifies g mu nu c ≡ true → judges cost (said c) (said k) ≡ true
-      → ((k ≡ 1) × LeastTree g mu nu cost) ⊎ ((k ≡ 0) × CheaperTree g mu nu cost)
-  case-judged cost k h j =
-      let b = case-best h in
-      or-elim (eqb k 1 && eqb cost (c .cost)) (eqb k 0 && ltb (c .cost) cost) j
-      (λ e. inl (
-        eqb-true k 1 (and-l (eqb k 1) _ e),
-        λ r p t. omega (arith, eqb-true cost (c .cost) (and-r (eqb k 1) _ e), b .tree-cost, b .least-tree r p t),
-      ))
-      (λ e. inr (
-        eqb-true k 0 (and-l (eqb k 0) _ e),
-        record {
-          root = 0;
-          parents = at (c .parents);
-          spanning = b .spanning;
-          less = omega (arith, ltb-true (c .cost) cost (and-r (eqb k 0) _ e), b .tree-cost);
-        },
-      ))
+-- ---- a certificate
+
+-- demand 3 of a certificate, with the plan by the rule
+abbrev pub BestOf : Graph → (ℕ → ℕ) → (ℕ → ℕ) → Certificate → Type 0
+BestOf g mu nu k = Best g mu nu (at (k .parents)) (plan (g .n) 0 (at (k .parents)) mu nu) (potentialOf k) (k .cost)
+
+module _ (g : Graph) (mu nu : ℕ → ℕ) (k : Certificate) where
+  -- what its test says
+  cost-is : certifies g mu nu k ≡ true → treeCost g 0 (at (k .parents)) mu nu ≡ k .cost
+  unfolding certifies
+  cost-is h =
+      eqb-true _ _ (and-l (eqb (treeCost g 0 (at (k .parents)) mu nu) (k .cost)) _ (and-r (eqb (treeRefusal g 0 (at (k .parents))) 0) _ h))
+
+  certificate : certifies g mu nu k ≡ true → IntegerCertificate g mu nu (at (k .parents)) (potentialOf k)
+  unfolding certifies
+  certificate h =
+      let h2 = and-r (eqb (treeRefusal g 0 (at (k .parents))) 0) _ h in
+      let h3 = and-r (eqb (treeCost g 0 (at (k .parents)) mu nu) (k .cost)) _ h2 in
+      let h4 = and-r (sameℤ (potentialOf k 0) (pos 0)) _ h3 in
+      record {
+        spanning = accepted-spanning g 0 (at (k .parents)) (eqb-true _ _ (and-l (eqb (treeRefusal g 0 (at (k .parents))) 0) _ h));
+        zero-at-0 = sameℤ-eq _ _ (and-l (sameℤ (potentialOf k 0) (pos 0)) _ h3);
+        within = λ e l. leb-true _ _ (all-at (edges g) (withinEdge g k) (and-l (all (edges g) (withinEdge g k)) _ h4) e l);
+        weighs = sameℤ-eq _ _ (and-r (all (edges g) (withinEdge g k)) _ h4) ∙ ap pos (sym (cost-is h));
+      }
+
+  -- where a best figure holds, the number is 0, the figure is the best cost, and it is that of demand 3 on what checks 1 to 7 accept
+  module _ (number : ℕ) (h : certified g mu nu number (said k) ≡ true) where
+    figure-number : number ≡ 0
+    figure-number = eqb-true _ _ (and-l (eqb number 0) _ h)
+
+    figure-cost : bestCost g mu nu ≡ k .cost
+    figure-cost = eqb-true _ _ (and-r (certifies g mu nu k) _ (and-r (eqb number 0) _ h))
+
+    figure-best : Accepted g → sum (g .n) mu ≡ sum (g .n) nu → BestOf g mu nu k
+    figure-best acc same =
+        let ok = and-l (certifies g mu nu k) _ (and-r (eqb number 0) _ h) in
+        rw (cost-is ok) at (certified-best g acc mu nu (at (k .parents)) (potentialOf k) same (certificate ok))
+
+-- ---- the table
+
+case-best : (c : Case) → holds c ≡ true → (k : Certificate) → c .best ≡ said k → BestOf (c .patch) (at (c .lent .mu)) (at (c .lent .nu)) k
+unfolding holds
+case-best c h k e =
+    let g = c .patch in
+    let mu = at (c .lent .mu) in
+    let nu = at (c .lent .nu) in
+    let number = eqb-true _ _ (and-l (eqb (givenRefusal g (c .lent) true) (c .refusal)) _ h) in
+    let rest = and-r (eqb (givenRefusal g (c .lent) true) (c .refusal)) _ h in
+    let best : certified g mu nu (c .refusal) (said k) ≡ true = rw e at (and-l (certified g mu nu (c .refusal) (c .best)) _ rest) in
+    let a = given-passed g (c .lent) true (number ∙ figure-number g mu nu k (c .refusal) best) .0 in
+    figure-best g mu nu k (c .refusal) best (a .graph) (a .same-total)
+
+-- checks 1 to 7 of an image that is answered
+answered : (s : List ℕ) (fits : Bool) → answerRefusal s fits ≡ 0
+    → Accepted (graphOf s) × (sum (vertexCount s) (amountBefore s) ≡ sum (vertexCount s) (amountAfter s))
+unfolding answerRefusal
+answered s fits h =
+    let a = not-refused (graphOf s) fits _ (image-passed s _ h .1 .1 .1) in
+    let mu = amountBefore s in
+    let nu = amountAfter s in
+    let m = two-passed (totalsOk (vertexCount s) mu nu) (totalsEqual (vertexCount s) mu nu) _ (a .1 .1) in
+    (a .0, equal-in (vertexCount s) mu nu (m .1 .0))
+
+image-best : (b : Bytes) → reads b ≡ true → (k : Certificate) → b .best ≡ said k → BestAnswer (b .image) (at (k .parents)) (potentialOf k)
+unfolding reads
+image-best b h k e =
+    let s = b .image in
+    let g = graphOf s in
+    let mu = amountBefore s in
+    let nu = amountAfter s in
+    let number = eqb-true _ _ (and-l (eqb (runRefusal s (room 0)) (b .refusal)) _ h) in
+    let rest = and-r (eqb (runRefusal s (room 0)) (b .refusal)) _ h in
+    let best : certified g mu nu (b .refusal) (said k) ≡ true = rw e at (and-l (certified g mu nu (b .refusal) (b .best)) _ rest) in
+    let a = answered s _ (number ∙ figure-number g mu nu k (b .refusal) best) in
+    rw (figure-cost g mu nu k (b .refusal) best) (figure-best g mu nu k (b .refusal) best (a .0) (a .1))
+
+-- every case of the table that has a best figure: no plan and no spanning tree costs less than its certificate, and all of demand 3
+pub cases-best : {c : Case} → List·Memᴰ c cases → {k : Certificate} → c .best ≡ said k
+    → BestOf (c .patch) (at (c .lent .mu)) (at (c .lent .nu)) k
+cases-best {c} m {k} e = case-best c (every-at holds cases (and-l (every holds cases) _ cases-hold) m) k e
+
+-- every image that has one: its tree and potential are a best answer of the entry
+pub images-best : {b : Bytes} → List·Memᴰ b images → {k : Certificate} → b .best ≡ said k
+    → BestAnswer (b .image) (at (k .parents)) (potentialOf k)
+images-best {b} m {k} e = image-best b (every-at reads images (and-r (every holds cases) _ cases-hold) m) k e

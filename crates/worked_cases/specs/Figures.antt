@@ -1,21 +1,27 @@
 -- What a marked case of document 01 says, as a test that computes on the definitions.
 use Prim.Native.Nat.{ℕ}
-use mathlib.Core.Bool.{Bool, true, false, _&&_, _||_}
+use mathlib.Core.Bool.{Bool, true, false, cond, _&&_}
 use mathlib.Core.List.{List, [], _∷_}
 use lib.ListN.{getD}
-use lib.Dec.{eqb, ltb, leb}
+use lib.Dec.{eqb, leb}
 use lib.IntN.{ℤ, pos, negsuc, natAbs, _-ℤ_, _*ℤ_}
 use Rattle.arithmetic.specs.Bools.{all}
+use Rattle.arithmetic.specs.Sum.{pick}
 use Rattle.arithmetic.specs.Integer.{sumℤ}
 use Rattle.arithmetic.specs.Table.{at, tab, matrix}
 use Rattle.graph.specs.Graph.{Graph, edges}
 use Rattle.tree_checks.specs.Checks.{treeRefusal}
-use Rattle.spanning_tree.specs.Weigh.{difference, imbalance, potential, treeCost}
+use Rattle.tree_evaluation.specs.Weigh.{difference, imbalance, potential, treeCost}
 use Rattle.transport_plan.specs.Plan.{moves}
-use Rattle.spanning_tree.specs.Evaluate.{Given, givenRefusal, treePlan}
+use Rattle.spanning_tree.specs.Given.{Given, givenRefusal}
+use Rattle.tree_evaluation.specs.Evaluate.{treePlan}
+use Rattle.duality.specs.BestCost.{bestCost}
+use Rattle.optimal_transport.specs.Solve.{solveRefusal}
+use Rattle.optimal_transport.specs.Judge.{givenCost}
+use Rattle.image.specs.Image.{amountBefore, amountAfter}
 use Rattle.image.specs.Read.{lists, readRefusal}
-use Rattle.weight_mover.specs.Run.{weighedRecord}
-use Rattle.listing.specs.Listing.{weighedListing}
+use Rattle.weight_mover.specs.Run.{graphOf, runRefusal, answerRecord}
+use Rattle.listing.specs.Listing.{listing}
 
 -- a figure that the document gives, or is silent on
 pub data Said (A : Type 0) : Type 0 where
@@ -41,12 +47,14 @@ pub record Case : Type 0 where
   pub best : Said Certificate
   pub judged : Said ℕ
 
--- an image with the number that the reader gives it, and the host record and the listing of its tree
+-- an image with the number that the reader and the entry give it, its host record and its listing; without a tree, with a best answer, of
+-- which the tree and the potential are free
 pub record Bytes : Type 0 where
   pub image : List ℕ
   pub refusal : ℕ
+  pub best : Said Certificate
   pub host : Said (List ℕ)
-  pub listing : Said (List ℕ)
+  pub listing : List ℕ
 
 abbrev pub sameℤ : ℤ → ℤ → Bool
 sameℤ (pos a) (pos b) = eqb a b
@@ -65,7 +73,7 @@ abbrev pub agrees : {A : Type 0} → (A → A → Bool) → A → Said A → Boo
 agrees eq x silent = true
 agrees eq x (said y) = eq x y
 
--- the certificate's tree is a spanning tree of that cost, and its potential is 0 at vertex 0, within each edge's length and weighs to it
+-- a certificate's potential
 abbrev pub potentialOf : Certificate → ℕ → ℤ
 potentialOf c y = getD (c .potentials) y (pos 0)
 
@@ -75,41 +83,43 @@ withinEdge g c e = leb (natAbs (potentialOf c (at (g .lower) e) -ℤ potentialOf
 abbrev pub weight : Graph → (ℕ → ℕ) → (ℕ → ℕ) → Certificate → ℤ
 weight g mu nu c = sumℤ (g .n) (λ y. potentialOf c y *ℤ difference mu nu y)
 
+-- the certificate's tree is a spanning tree of that cost, and its potential is 0 at vertex 0, within each edge's length and weighs to it
 unfoldable pub certifies : Graph → (ℕ → ℕ) → (ℕ → ℕ) → Certificate → Bool
 certifies g mu nu c =
     eqb (treeRefusal g 0 (at (c .parents))) 0 && (eqb (treeCost g 0 (at (c .parents)) mu nu) (c .cost)
     && (sameℤ (potentialOf c 0) (pos 0) && (all (edges g) (withinEdge g c) && sameℤ (weight g mu nu c) (pos (c .cost)))))
 
-abbrev pub certified : Graph → (ℕ → ℕ) → (ℕ → ℕ) → Said Certificate → Bool
-certified g mu nu silent = true
-certified g mu nu (said c) = certifies g mu nu c
+-- the certificate's cost is the best cost, and the case is not refused
+abbrev pub certified : Graph → (ℕ → ℕ) → (ℕ → ℕ) → ℕ → Said Certificate → Bool
+certified g mu nu number silent = true
+certified g mu nu number (said c) = eqb number 0 && (certifies g mu nu c && eqb (bestCost g mu nu) (c .cost))
 
--- 1 where the tree costs what the certificate does, 0 where it costs more
-abbrev pub judges : ℕ → Said Certificate → Said ℕ → Bool
-judges cost c silent = true
-judges cost silent (said k) = false
-judges cost (said c) (said k) = (eqb k 1 && eqb cost (c .cost)) || (eqb k 0 && ltb (c .cost) cost)
+-- "the best call after 7": its number, where weighing has the given one
+abbrev pub upTo7 : ℕ → ℕ
+upTo7 number = cond (leb number 7) number 0
 
--- all figures of a case
+-- a lent table that is long enough for all that stands here
+abbrev pub room : {A : Type 0} → A → List A
+room x = tab 600 (λ i. x)
+
+-- all figures of a case: the number, the best cost, the judgment, the number of the best call, and what weighing gives
 unfoldable pub holds : Case → Bool
 holds c =
     eqb (givenRefusal g w true) (c .refusal)
+    && (certified g mu nu (c .refusal) (c .best)
+    && (agrees eqb (pick (eqb (givenCost g w) (bestCost g mu nu)) 1) (c .judged)
+    && (eqb (solveRefusal g (w .mu) (w .nu) (room 0) (room (pos 0)) (room 0)) (upTo7 (c .refusal))
     && (agrees (sames sameℤ) (tab (g .n) (imbalance (g .n) p mu nu)) (c .imbalances)
-    && (agrees (sames sameℤ) (tab (g .n) (potential g r p mu nu)) (c .potentials)
-    && (agrees eqb (treeCost g r p mu nu) (c .cost)
+    && (agrees (sames sameℤ) (tab (g .n) (potential g (w .root) p mu nu)) (c .potentials)
+    && (agrees eqb (givenCost g w) (c .cost)
     && (agrees eqb (moves (g .n) (treePlan g w)) (c .moved)
-    && (agrees (sames eqb) (matrix (g .n) (treePlan g w)) (c .entries)
-    && (certified g mu nu (c .best)
-    && judges (treeCost g r p mu nu) (c .best) (c .judged)))))))
+    && agrees (sames eqb) (matrix (g .n) (treePlan g w)) (c .entries))))))))
   where
     g : Graph
     g = c .patch
 
     w : Given
     w = c .lent
-
-    r : ℕ
-    r = w .root
 
     p : ℕ → ℕ
     p = at (w .parents)
@@ -120,14 +130,22 @@ holds c =
     nu : ℕ → ℕ
     nu = at (w .nu)
 
--- the number of an image, with room for all that it may hold, and the answer to its tree in bytes
+-- the certificate, or an empty one
+abbrev pub found : Said Certificate → Certificate
+found silent = record { parents = []; potentials = []; cost = 0 }
+found (said c) = c
+
+-- all that is said of an image: the number of the entry, the best answer, the number of the reader, the host record and the listing
 unfoldable pub reads : Bytes → Bool
 reads b =
-    eqb (readRefusal (b .image) (lists room room room room room room)) (b .refusal)
-    && (agrees (sames eqb) (weighedRecord (b .image)) (b .host) && agrees (sames eqb) (weighedListing (b .image)) (b .listing))
+    eqb (runRefusal s (room 0)) (b .refusal)
+    && (certified (graphOf s) (amountBefore s) (amountAfter s) (b .refusal) (b .best)
+    && (eqb (readRefusal s (lists (room 0) (room 0) (room 0) (room 0) (room 0) (room 0))) (b .refusal)
+    && (agrees (sames eqb) (answerRecord s (at (found (b .best) .parents)) (potentialOf (found (b .best)))) (b .host)
+    && sames eqb (listing s) (b .listing))))
   where
-    room : List ℕ
-    room = tab 600 (λ i. 0)
+    s : List ℕ
+    s = b .image
 
 unfoldable pub every : {A : Type 0} → (A → Bool) → List A → Bool
 every f [] = true

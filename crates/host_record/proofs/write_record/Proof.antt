@@ -1,12 +1,19 @@
 use native.Mathlib.Omega.{arith}
-use mathlib.Core.Path.{refl}
+use mathlib.Core.Path.{_≡_, refl}
+use lib.ListN.{length}
 use Rattle.host_record.specs.RecordLaws.{sections}
 use borrow.Author.Needs.{needs}
 use Rattle.host_record.proofs.write_record.Statement.{statement}
 use Rattle.host_record.proofs.write_record.Tie as tie
 
+cast-write-figures : tie.Need-cast-write-figures
+cast-write-figures c = omega arith
+
 write-figures-requires : tie.Need-write-figures-requires
 write-figures-requires c κs = omega arith
+
+slice-aggregate-write-parents : tie.Need-slice-aggregate-write-parents
+slice-aggregate-write-parents c = search needs
 
 sub-write-parents : tie.Need-sub-write-parents
 sub-write-parents c = omega arith
@@ -18,7 +25,9 @@ part-write-parents-end : tie.Need-part-write-parents-end
 part-write-parents-end c = omega arith
 
 write-parents-requires : tie.Need-write-parents-requires
-write-parents-requires c κs = omega arith
+write-parents-requires c κs =
+    let e : 64 ≡ length (c .before .before .before .before .before .before .before .before .before .before .args .tree .parents) = slice-aggregate-write-parents (c .before) in
+    omega arith
 
 add-second : tie.Need-add-second
 add-second c = omega arith
@@ -64,15 +73,17 @@ returns c =
     let fourth = c .before .before in
     let third = fourth .before .before .before .before in
     let second = third .before .before .before .before in
-    let first = second .before .before .before .before in
-    sections _ _ _ _ _ _ _ _ (first .before .before .before .before .before .pre .4) _ _ _ _ _ _ (first .write-figures .ensures) (second .write-parents .ensures) refl
+    let first = second .before .before .before .before .before in
+    sections _ _ _ _ _ _ _ _ (first .before .before .before .before .before .before .pre .4) _ _ _ _ _ _ (first .write-figures .ensures) (second .write-parents .ensures) refl
     (third .write-potential .ensures) refl (fourth .write-plan .ensures)
 
 pub write-record-spec : {M : Type 1} → statement M
 write-record-spec =
     tie.close
     (tie.spec
+    cast-write-figures
     write-figures-requires
+    slice-aggregate-write-parents
     sub-write-parents
     part-write-parents-start
     part-write-parents-end

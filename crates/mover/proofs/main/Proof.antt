@@ -17,17 +17,14 @@ array-share-prefix-image c = search needs
 slice-aggregate-write-listing : tie.Need-slice-aggregate-write-listing
 slice-aggregate-write-listing c = search needs
 
-slice-aggregate-write-listing-2 : tie.Need-slice-aggregate-write-listing-2
-slice-aggregate-write-listing-2 c = search needs
-
 write-listing-requires : tie.Need-write-listing-requires
 write-listing-requires c κs = search needs
 
 array-share-prefix-text : tie.Need-array-share-prefix-text
-array-share-prefix-text c = listed-within (c .before .write-listing .ensures)
+array-share-prefix-text c = listed-within (c .write-listing .ensures)
 
 slice-aggregate-write-all : tie.Need-slice-aggregate-write-all
-slice-aggregate-write-all c = simp length-take (omega (arith, listed-within (c .before .before .write-listing .ensures)))
+slice-aggregate-write-all c = simp length-take (omega (arith, listed-within (c .before .write-listing .ensures)))
 
 write-all-requires : tie.Need-write-all-requires
 write-all-requires c κs = search needs
@@ -43,7 +40,6 @@ main-spec =
     read-full-requires
     array-share-prefix-image
     slice-aggregate-write-listing
-    slice-aggregate-write-listing-2
     write-listing-requires
     array-share-prefix-text
     slice-aggregate-write-all

@@ -1,7 +1,6 @@
--- `is_optimal` meets its contract: the cases in turn.
-use borrow.Author.Needs.{needs}
 use native.Mathlib.Omega.{arith}
-use Rattle.optimal_transport.specs.SolveLaws.{judge-refused, can-cost, can-solve, judged-best, judged-other}
+use Rattle.optimal_transport.specs.SolveLaws.{judge-refused, can-solve, given-can, judged-best, judged-other}
+use borrow.Author.Needs.{needs}
 use Rattle.optimal_transport.proofs.is_optimal.Statement.{statement}
 use Rattle.optimal_transport.proofs.is_optimal.Tie as tie
 
@@ -12,22 +11,25 @@ given-refusal-requires : tie.Need-given-refusal-requires
 given-refusal-requires c κs = search needs
 
 returns : tie.Need-returns
-returns c = judge-refused (c .before .before .given-refusal .ensures) (omega arith)
+returns c = judge-refused (c .before .before .given-refusal .ensures) (c .if1 .taken)
 
-slice-aggregate-given-cost : tie.Need-slice-aggregate-given-cost
-slice-aggregate-given-cost c = search needs
+new-requires : tie.Need-new-requires
+new-requires c κs = search needs
 
-given-cost-requires : tie.Need-given-cost-requires
-given-cost-requires c κs = can-cost (c .before .before .before .given-refusal .ensures) (omega arith) (omega arith)
+slice-aggregate-cost-of : tie.Need-slice-aggregate-cost-of
+slice-aggregate-cost-of c = search needs
+
+cost-of-requires : tie.Need-cost-of-requires
+cost-of-requires c κs = given-can (c .before .before .before .before .given-refusal .ensures) (c .before .before .if1 .left) (c .before .new .ensures) (omega arith)
 
 least-cost-requires : tie.Need-least-cost-requires
-least-cost-requires c κs = can-solve (c .before .before .before .before .given-refusal .ensures) (omega arith)
+least-cost-requires c κs = can-solve (c .before .before .before .before .before .given-refusal .ensures) (c .before .before .before .if1 .left)
 
 returns-2 : tie.Need-returns-2
-returns-2 c = judged-best (c .before .before .before .before .before .before .given-refusal .ensures) (omega arith) (c .before .before .given-cost .ensures) (c .before .least-cost .ensures) (omega arith)
+returns-2 c = judged-best (c .before .before .before .before .before .before .before .given-refusal .ensures) (c .before .before .before .before .before .if1 .left) (c .before .before .before .before .new .ensures) (c .before .before .cost-of .ensures) (c .before .least-cost .ensures) (c .if2 .taken)
 
 returns-3 : tie.Need-returns-3
-returns-3 c = judged-other (c .before .before .before .before .before .before .given-refusal .ensures) (omega arith) (c .before .before .given-cost .ensures) (c .before .least-cost .ensures) (omega arith)
+returns-3 c = judged-other (c .before .before .before .before .before .before .before .given-refusal .ensures) (c .before .before .before .before .before .if1 .left) (c .before .before .before .before .new .ensures) (c .before .before .cost-of .ensures) (c .before .least-cost .ensures) (c .if2 .left)
 
 pub is-optimal-spec : {M : Type 1} → statement M
 is-optimal-spec =
@@ -36,8 +38,9 @@ is-optimal-spec =
     slice-aggregate-given-refusal
     given-refusal-requires
     returns
-    slice-aggregate-given-cost
-    given-cost-requires
+    new-requires
+    slice-aggregate-cost-of
+    cost-of-requires
     least-cost-requires
     returns-2
     returns-3)

@@ -1,10 +1,28 @@
--- `solve` meets its contract: a refusal leaves the tables, and else each table is written once.
-use borrow.Author.Needs.{needs}
+use Prim.Native.Nat.{ℕ}
+use mathlib.Core.Path.{refl}
+use mathlib.Core.List.{List}
+use lib.IntN.{ℤ}
 use native.Mathlib.Omega.{arith}
-use Rattle.network_simplex.specs.FirstBasis.{vertices}
-use Rattle.optimal_transport.specs.SolveLaws.{solve-refused, room-for, tree-handed-out, solved}
+use Rattle.transport_plan.specs.PlanSteps.{Measures}
+use Rattle.tree_evaluation.specs.EvaluateTree.{Evaluable}
+use Rattle.optimal_transport.specs.SolveLaws.{can-of, found-few, found-evaluable, room-for, solve-refused, solved}
+use borrow.Author.Needs.{needs}
 use Rattle.optimal_transport.proofs.solve.Statement.{statement}
 use Rattle.optimal_transport.proofs.solve.Tie as tie
+
+-- a tree is evaluable with one pair of paintings as with another
+of-measures : {n r : ℕ} {parents above mu nu mu' nu' : List ℕ} {imbalances : List ℤ} {entries : List ℕ}
+    → Evaluable n r parents above mu nu imbalances entries → (Measures n mu nu → Measures n mu' nu')
+    → Evaluable n r parents above mu' nu' imbalances entries
+of-measures e m = record {
+  few = e .few;
+  tree = e .tree;
+  long-above = e .long-above;
+  short = e .short;
+  measures = m (e .measures);
+  room-imbalance = e .room-imbalance;
+  room-plan = e .room-plan;
+}
 
 has-room-requires : tie.Need-has-room-requires
 has-room-requires c κs = search needs
@@ -30,43 +48,63 @@ slice-aggregate-best-answer-2 c = search needs
 slice-aggregate-best-answer-3 : tie.Need-slice-aggregate-best-answer-3
 slice-aggregate-best-answer-3 c = search needs
 
-best-answer-requires : tie.Need-best-answer-requires
-best-answer-requires c κs = ((c .before .before .before .before .before .before .solve-refusal .ensures) .start (omega arith), omega arith)
+slice-aggregate-best-answer-4 : tie.Need-slice-aggregate-best-answer-4
+slice-aggregate-best-answer-4 c = search needs
 
-slice-aggregate-write-parents : tie.Need-slice-aggregate-write-parents
-slice-aggregate-write-parents c = search needs
+best-answer-requires : tie.Need-best-answer-requires
+best-answer-requires c κs =
+    let s = c .before .before .before .before .before .before .before .solve-refusal .ensures .start (omega arith) in (
+      record {
+        accepted = s .accepted;
+        tree = s .tree;
+        same = omega (arith, s .same);
+        light = omega (arith, s .light, s .same);
+        mu-size = omega (arith, s .mu-size, s .nu-size);
+        nu-size = omega (arith, s .mu-size, s .nu-size);
+        parents-size = s .parents-size;
+        edge-size = s .edge-size;
+      },
+      (refl, refl),
+    )
+
+slice-aggregate-evaluate-tree : tie.Need-slice-aggregate-evaluate-tree
+slice-aggregate-evaluate-tree c = search needs
+
+slice-aggregate-evaluate-tree-2 : tie.Need-slice-aggregate-evaluate-tree-2
+slice-aggregate-evaluate-tree-2 c = search needs
+
+evaluate-tree-requires : tie.Need-evaluate-tree-requires
+evaluate-tree-requires c κs = let s = c .before .before .before .before .before .before .before .before .before .before .before .before .before .before .before .before .before .before .before .before .before .before .before .before .before .before .args in
+    let k = c .before .before .before .before .before .before .before .before .before .before .before .before .before .before .before .solve-refusal .ensures in
+    let can = can-of (k .start (omega arith)) in
+    let r = room-for _ _ _ (s .parents .now) (s .potential .now) (s .plan .now) _ (c .before .before .before .before .before .before .before .before .before .before .before .before .before .before .before .before .before .before .has-room .ensures) k (omega arith) in
+    of-measures (found-evaluable can (c .before .before .before .before .before .before .before .best-answer .ensures) (omega (arith, found-few can (c .before .before .before .before .before .before .before .best-answer .ensures))) (r .1 .1))
+    (λ m. record {
+      long-mu = omega (arith, m .long-mu, m .long-nu);
+      long-nu = omega (arith, m .long-mu, m .long-nu);
+      total-mu = omega (arith, m .total-mu, m .total-nu);
+      total-nu = omega (arith, m .total-mu, m .total-nu);
+    })
 
 write-parents-requires : tie.Need-write-parents-requires
-write-parents-requires c κs = let s = c .before .before .before .before .before .before .before .before .before .before .before .before .before .before .before .before .before .before .before .before .before .before .before .args in
-    let r = room-for _ _ _ (s .parents .now) (s .potential .now) (s .plan .now) _ (c .before .before .before .before .before .before .before .before .before .before .before .before .before .before .before .has-room .ensures) (c .before .before .before .before .before .before .before .before .before .before .before .before .solve-refusal .ensures) (omega arith) in
-    let v = vertices ((c .before .before .before .before .before .before .before .before .before .before .before .before .solve-refusal .ensures) .start (omega arith)) in
-    (omega (arith, v), r .0)
+write-parents-requires c κs = let s = c .before .before .before .before .before .before .before .before .before .before .before .before .before .before .before .before .before .before .before .before .before .before .before .before .before .before .before .before .before .before .before .args in
+    let k = c .before .before .before .before .before .before .before .before .before .before .before .before .before .before .before .before .before .before .before .before .solve-refusal .ensures in
+    let can = can-of (k .start (omega arith)) in
+    let r = room-for _ _ _ (s .parents .now) (s .potential .now) (s .plan .now) _ (c .before .before .before .before .before .before .before .before .before .before .before .before .before .before .before .before .before .before .before .before .before .before .before .has-room .ensures) k (omega arith) in
+    let f = found-few can (c .before .before .before .before .before .before .before .before .before .before .before .before .best-answer .ensures) in
+    (f .0, omega (arith, f .1, r .0))
 
 slice-aggregate-write-potential : tie.Need-slice-aggregate-write-potential
 slice-aggregate-write-potential c = search needs
 
 write-potential-requires : tie.Need-write-potential-requires
-write-potential-requires c κs = let s = c .before .before .before .before .before .before .before .before .before .before .before .before .before .before .before .before .before .before .before .before .before .before .before .before .before .before .before .before .args in
-    let r = room-for _ _ _ (s .parents .now) (s .potential .now) (s .plan .now) _ (c .before .before .before .before .before .before .before .before .before .before .before .before .before .before .before .before .before .before .before .before .has-room .ensures) (c .before .before .before .before .before .before .before .before .before .before .before .before .before .before .before .before .before .solve-refusal .ensures) (omega arith) in
-    let v = vertices ((c .before .before .before .before .before .before .before .before .before .before .before .before .before .before .before .before .before .solve-refusal .ensures) .start (omega arith)) in
-    ((omega (arith, v), r .1 .0), (c .before .before .before .before .before .before .before .before .before .before .best-answer .ensures) .best .small)
-
-tree-plan-requires : tie.Need-tree-plan-requires
-tree-plan-requires c κs = let checked = c .before .before .before .before .before .before .before .before .before .before .before .before .before .before .before .before .before .before .before .before .before .solve-refusal .ensures in
-    let start = checked .start (omega arith) in
-    let s = c .before .before .before .before .before .before .before .before .before .before .before .before .before .before .before .before .before .before .before .before .before .before .before .before .before .before .before .before .before .before .before .before .args in
-    let r = room-for _ _ _ (s .parents .now) (s .potential .now) (s .plan .now) _ (c .before .before .before .before .before .before .before .before .before .before .before .before .before .before .before .before .before .before .before .before .before .before .before .before .has-room .ensures) checked (omega arith) in (
-      (vertices start .1, (omega (arith, r .0), r .1 .1)),
-      (
-        tree-handed-out _ _ _ (s .parents .now) (s .potential .now) (s .plan .now) _ (c .before .before .before .before .before .before .before .before .before .before .before .before .before .before .before .before .before .before .before .before .before .before .before .before .has-room .ensures) checked (omega arith) (c .before .before .before .before .before .before .before .before .before .before .before .before .before .before .best-answer .ensures) (c .before .before .before .before .before .before .before .before .write-parents .ensures),
-        record {
-          long-mu = omega (arith, start .mu-size);
-          long-nu = omega (arith, start .nu-size);
-          total-mu = start .light;
-          total-nu = omega (arith, start .light, start .same);
-        },
-      ),
-    )
+write-potential-requires c κs = let s = c .before .before .before .before .before .before .before .before .before .before .before .before .before .before .before .before .before .before .before .before .before .before .before .before .before .before .before .before .before .before .before .before .before .before .before .before .args in
+    let k = c .before .before .before .before .before .before .before .before .before .before .before .before .before .before .before .before .before .before .before .before .before .before .before .before .before .solve-refusal .ensures in
+    let can = can-of (k .start (omega arith)) in
+    let r = room-for _ _ _ (s .parents .now) (s .potential .now) (s .plan .now) _ (c .before .before .before .before .before .before .before .before .before .before .before .before .before .before .before .before .before .before .before .before .before .before .before .before .before .before .before .before .has-room .ensures) k (omega arith) in
+    let b = c .before .before .before .before .before .before .before .before .before .before .before .before .before .before .before .before .before .best-answer .ensures in
+    let f = found-few can b in
+    ((omega (arith, f, b .potential-size), omega (arith, r .1 .0)), λ y l. b .small y (omega arith))
 
 same-length : tie.Need-same-length
 same-length c = search needs
@@ -78,7 +116,7 @@ same-length-3 : tie.Need-same-length-3
 same-length-3 c = search needs
 
 returns-2 : tie.Need-returns-2
-returns-2 c = solved _ _ _ _ _ _ _ (c .before .before .before .before .before .before .before .before .before .before .before .before .before .before .before .before .before .before .before .before .before .before .before .before .before .before .before .has-room .ensures) (c .before .before .before .before .before .before .before .before .before .before .before .before .before .before .before .before .before .before .before .before .before .before .before .before .solve-refusal .ensures) (omega arith) (c .before .before .before .before .before .before .before .before .before .before .before .before .before .before .before .before .before .best-answer .ensures) (c .before .before .before .before .before .before .before .before .before .before .before .write-parents .ensures) (c .before .before .before .before .before .before .write-potential .ensures) (c .before .before .tree-plan .ensures)
+returns-2 c = solved _ _ _ _ _ _ _ (c .before .before .before .before .before .before .before .before .before .before .before .before .before .before .before .before .before .before .before .before .before .before .before .before .before .before .before .before .before .before .has-room .ensures) (c .before .before .before .before .before .before .before .before .before .before .before .before .before .before .before .before .before .before .before .before .before .before .before .before .before .before .before .solve-refusal .ensures) (omega arith) (c .before .before .before .before .before .before .before .before .before .before .before .before .before .before .before .before .before .before .before .best-answer .ensures) (c .before .before .before .before .before .before .before .before .before .before .before .evaluate-tree .ensures _ _ _) (c .before .before .before .before .before .before .write-parents .ensures) (c .before .write-potential .ensures)
 
 pub solve-spec : {M : Type 1} → statement M
 solve-spec =
@@ -92,12 +130,14 @@ solve-spec =
     slice-aggregate-best-answer
     slice-aggregate-best-answer-2
     slice-aggregate-best-answer-3
+    slice-aggregate-best-answer-4
     best-answer-requires
-    slice-aggregate-write-parents
+    slice-aggregate-evaluate-tree
+    slice-aggregate-evaluate-tree-2
+    evaluate-tree-requires
     write-parents-requires
     slice-aggregate-write-potential
     write-potential-requires
-    tree-plan-requires
     same-length
     same-length-2
     same-length-3

@@ -1,8 +1,8 @@
 use Prim.Native.Nat.{_≤_, _-_}
 use mathlib.Core.Path.{_≡_}
 use native.Mathlib.Omega.{arith}
+use Rattle.vertex_set.specs.Words.{mask-none, mask-step, mask-end, mask-under}
 use Rattle.transport_plan.specs.PlanSteps.{positive}
-use Rattle.transport_plan.proofs.Words.{mask-none, mask-step, mask-end, mask-under}
 use Rattle.transport_plan.proofs.positive_word.Statement.{statement}
 use Rattle.transport_plan.proofs.positive_word.Tie as tie
 

@@ -8,10 +8,10 @@ use Rattle.tree_pivot.proofs.advance_path.Statement.{statement}
 use Rattle.tree_pivot.proofs.advance_path.Tie as tie
 
 abbrev Inv-loop : tie.InvT-loop
-Inv-loop n a stop first parents above₀ y₀ handed₀ above y handed = Walking n (at parents) a stop (Handed n (at parents) a above₀ first) above₀ above y × Handed n (at parents) a above₀ first y handed
+Inv-loop n root a stop first parents above₀ y₀ handed₀ above y handed = Walking n (at parents) a stop (Handed n (at parents) a above₀ first) above₀ above y × Handed n (at parents) a above₀ first y handed
 
 abbrev μ-loop : tie.MeasureT-loop
-μ-loop n a stop first parents above₀ y₀ handed₀ above y handed = depth (at parents) 0 n y
+μ-loop n root a stop first parents above₀ y₀ handed₀ above y handed = depth (at parents) root n y
 
 loop-holds : tie.Need-loop-holds Inv-loop μ-loop
 loop-holds c = (walk-none (c .pre .walk) _ _, walk-first (c .pre .walk) _ _)

@@ -9,10 +9,10 @@ use Rattle.tree_pivot.proofs.complement_path.Statement.{statement}
 use Rattle.tree_pivot.proofs.complement_path.Tie as tie
 
 abbrev Inv-loop : tie.InvT-loop
-Inv-loop n a stop total parents table₀ y₀ handed₀ table y handed = Walking n (at parents) a stop (λ x k. (e : ℕ) × (Handed n (at parents) a table₀ 0 x e × (k ≡ total - e))) table₀ table y × (Handed n (at parents) a table₀ 0 y handed × (handed ≤ total))
+Inv-loop n root a stop total parents table₀ y₀ handed₀ table y handed = Walking n (at parents) a stop (λ x k. (e : ℕ) × (Handed n (at parents) a table₀ 0 x e × (k ≡ total - e))) table₀ table y × (Handed n (at parents) a table₀ 0 y handed × (handed ≤ total))
 
 abbrev μ-loop : tie.MeasureT-loop
-μ-loop n a stop total parents table₀ y₀ handed₀ table y handed = depth (at parents) 0 n y
+μ-loop n root a stop total parents table₀ y₀ handed₀ table y handed = depth (at parents) root n y
 
 loop-holds : tie.Need-loop-holds Inv-loop μ-loop
 loop-holds c = (walk-none (c .pre .walk) _ _, (walk-first (c .pre .walk) 0 _, omega arith))

@@ -26,7 +26,7 @@ slice-read-shift-potential : tie.Need-slice-read-shift-potential
 slice-read-shift-potential c = omega (arith, c .before .before .before .before .before .before .before .before .before .before .before .before .before .before .before .before .before .before .before .before .before .before .before .before .before .before .before .before .before .before .before .pre .can .a-low, c .before .before .before .before .before .before .before .before .before .before .before .before .before .before .before .before .before .before .before .before .before .before .before .before .before .before .before .before .before .before .before .pre .can .size, c .before .before .before .before .before .before .before .before .before .before .before .before .before .before .before .before .before .before .before .before .before .before .before .before .before .before .before .before .before .before .before .pre .can .network .few, c .before .before .before .before .before .before .before .before .before .before .move-totals3 .ensures .size, c .before .before .before .before .before .before .before .before .before .before .before .before .before .before .before .before .before .before .before .before .before .before .before .before .before .before .before .before .before .before .before .pre .can .basis .masks-size)
 
 shift-potential-requires : tie.Need-shift-potential-requires
-shift-potential-requires c κs = can-shift-potential (c .before .before .before .before .before .before .before .before .before .before .before .before .before .before .before .before .before .before .before .before .before .before .before .before .before .before .before .before .before .before .before .before .pre .can) (c .before .before .before .before .before .before .reverse-path .ensures) (c .before .before .before .before .before .before .before .before .before .before .before .move-totals3 .ensures) _ (c .before .before .before .before .before .before .before .before .before .before .before .before .before .before .before .before .before .before .before .before .before .before .before .before .excess-of .ensures)
+shift-potential-requires c κs = can-shift-potential (c .before .before .before .before .before .before .before .before .before .before .before .before .before .before .before .before .before .before .before .before .before .before .before .before .before .before .before .before .before .before .before .before .pre .can) (c .before .before .before .before .before .before .reverse-path .ensures) (c .before .before .before .before .before .before .before .before .before .before .before .move-totals3 .ensures) _ (omega (arith, c .before .before .before .before .before .before .before .before .before .before .before .before .before .before .before .before .before .before .before .before .before .before .before .before .excess-of .ensures))
 
 same-length : tie.Need-same-length
 same-length c = c .before .before .before .before .before .before .before .before .before .reverse-path .ensures .parents .size

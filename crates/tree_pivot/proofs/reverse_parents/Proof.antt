@@ -8,10 +8,10 @@ use Rattle.tree_pivot.proofs.reverse_parents.Statement.{statement}
 use Rattle.tree_pivot.proofs.reverse_parents.Tie as tie
 
 abbrev Inv-loop : tie.InvT-loop
-Inv-loop n a b c parents₀ up₀ last₀ parents up last = Reversing n parents₀ 0 a b c parents up last
+Inv-loop n root a b c parents₀ up₀ last₀ parents up last = Reversing n parents₀ root a b c parents up last
 
 abbrev μ-loop : tie.MeasureT-loop
-μ-loop n a b c parents₀ up₀ last₀ parents up last = depth (at parents₀) 0 n up
+μ-loop n root a b c parents₀ up₀ last₀ parents up last = depth (at parents₀) root n up
 
 loop-holds : tie.Need-loop-holds Inv-loop μ-loop
 loop-holds c = reversing-none (c .pre .1)

@@ -9,10 +9,10 @@ use Rattle.tree_pivot.proofs.shift_path.Statement.{statement}
 use Rattle.tree_pivot.proofs.shift_path.Tie as tie
 
 abbrev Inv-loop : tie.InvT-loop
-Inv-loop n from stop rises d parents table₀ y₀ table y = Walking n (at parents) from stop (λ x k. k ≡ shifted rises d (at table₀ x)) table₀ table y
+Inv-loop n root from stop rises d parents table₀ y₀ table y = Walking n (at parents) from stop (λ x k. k ≡ shifted rises d (at table₀ x)) table₀ table y
 
 abbrev μ-loop : tie.MeasureT-loop
-μ-loop n from stop rises d parents table₀ y₀ table y = depth (at parents) 0 n y
+μ-loop n root from stop rises d parents table₀ y₀ table y = depth (at parents) root n y
 
 loop-holds : tie.Need-loop-holds Inv-loop μ-loop
 loop-holds c = walk-none (c .before .before .pre .walk) _ _

@@ -25,11 +25,10 @@ loop-holds c =
 phase-requires : tie.Need-phase-requires Inv-loop μ-loop
 phase-requires c κs =
     let s = c .before .before .before .before .before .before .before .before .before .before .before in
-    let v = c .before .before .loop .inv .1 in
-    let h = c .before .loop-test .taken in (
-      h,
+    let v = c .before .before .loop .inv .1 in (
+      omega arith,
       via-bounded (graph (s .args .n) (s .args .a .now) (s .args .b .now) (s .args .lengths .now)) _ (omega arith) _ _ v (s .pre .2) (s .pre .3),
-      via-zero (graph (s .args .n) (s .args .a .now) (s .args .b .now) (s .args .lengths .now)) _ (omega arith) _ _ v h,
+      via-zero (graph (s .args .n) (s .args .a .now) (s .args .b .now) (s .args .lengths .now)) _ (omega arith) _ _ v _ (omega arith),
     )
 
 add-k : tie.Need-add-k Inv-loop μ-loop

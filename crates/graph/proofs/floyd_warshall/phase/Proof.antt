@@ -19,7 +19,7 @@ loop-holds c =
 relax-row-requires : tie.Need-relax-row-requires Inv-loop μ-loop
 relax-row-requires c κs =
     let s = c .before .before .before .before in
-    (s .pre .0, c .before .loop-test .taken, phase-bounded _ _ _ (s .pre .0) (s .pre .1) (s .pre .2) _ _ (c .before .before .loop .inv .1))
+    (omega arith, omega arith, phase-bounded _ _ _ (s .pre .0) (s .pre .1) (s .pre .2) _ _ (c .before .before .loop .inv .1))
 
 add-i : tie.Need-add-i Inv-loop μ-loop
 add-i c = omega arith

@@ -3,7 +3,7 @@ use Prim.Native.Nat.{_≤_, _-_}
 use mathlib.Core.Path.{_≡_}
 use native.Mathlib.Omega.{arith}
 use Rattle.arithmetic.specs.Table.{at}
-use Rattle.tree_checks.specs.Walk.{Filled, filled-none, filled-more}
+use Rattle.tree_walks.specs.Walk.{Filled, filled-none, filled-more}
 use Rattle.network_simplex.specs.Perturbed.{demandOf}
 use Rattle.network_simplex.proofs.first_basis.perturbed_demand.Statement.{statement}
 use Rattle.network_simplex.proofs.first_basis.perturbed_demand.Tie as tie

@@ -1,11 +1,9 @@
 -- `search` meets its contract. The loop's invariant: e is the entering edge, and the tables are still a basis; the measure is its cost. Assumes nothing.
 use borrow.Author.Needs.{needs}
 use mathlib.Core.Path.{sym, _∙_}
-use Rattle.arithmetic.specs.Table.{at}
 use Rattle.graph.specs.Graph.{graph}
-use Rattle.spanning_tree.specs.WeighLaws.{costFrom}
 use Rattle.pivot_rules.specs.Entering.{Entering}
-use Rattle.network_simplex.specs.Search.{Kept, search-basis, search-reach, search-reaches, search-enters, search-improves, search-keeps, search-less, search-ends}
+use Rattle.network_simplex.specs.Search.{basisCost, Kept, search-basis, search-reach, search-reaches, search-enters, search-improves, search-keeps, search-less, search-ends}
 use Rattle.network_simplex.proofs.search.search.Statement.{statement}
 use Rattle.network_simplex.proofs.search.search.Tie as tie
 
@@ -13,7 +11,7 @@ abbrev Inv-loop : tie.InvT-loop
 Inv-loop n a b lengths parents₀ above₀ supply₀ demand₀ masks₀ potential₀ reach e₀ parents above supply demand masks potential e = Entering a b lengths potential e × Kept (graph n a b lengths) parents₀ above₀ supply₀ demand₀ masks₀ potential₀ parents above supply demand masks potential
 
 abbrev μ-loop : tie.MeasureT-loop
-μ-loop n a b lengths parents₀ above₀ supply₀ demand₀ masks₀ potential₀ reach e₀ parents above supply demand masks potential e = costFrom n 0 (at above) (at supply) (at demand)
+μ-loop n a b lengths parents₀ above₀ supply₀ demand₀ masks₀ potential₀ reach e₀ parents above supply demand masks potential e = basisCost n above supply demand
 
 slice-aggregate-reaches : tie.Need-slice-aggregate-reaches Inv-loop μ-loop
 slice-aggregate-reaches c = search needs

@@ -27,18 +27,20 @@ shared-slice-read-difference : tie.Need-shared-slice-read-difference Inv-loop μ
 shared-slice-read-difference c = omega arith
 
 cast-difference : tie.Need-cast-difference Inv-loop μ-loop
-cast-difference c = omega (arith, c .shared-slice-known2 .given (c .before .before .loop .y))
+cast-difference c = omega (arith, c .shared-slice-known2 .given (c .before .before .loop .y), c .shared-slice-known2 .given 0)
 
 shared-slice-read-difference-2 : tie.Need-shared-slice-read-difference-2 Inv-loop μ-loop
 shared-slice-read-difference-2 c = omega arith
 
 cast-difference-2 : tie.Need-cast-difference-2 Inv-loop μ-loop
-cast-difference-2 c = omega (arith, c .shared-slice-known3 .given 0)
+cast-difference-2 c = omega (arith, c .shared-slice-known3 .given (c .before .before .before .loop .y), c .shared-slice-known3 .given 0)
 
 difference-requires : tie.Need-difference-requires Inv-loop μ-loop
 difference-requires c κs = let s = c .before .before .before .before .before in
     let y = c .before .before .before .loop .y in
-    (omega (arith, s .pre .1 y (omega arith)), omega (arith, s .pre .1 0 (omega arith)))
+    let of-y = s .pre .1 y (omega arith) in
+    let of-0 = s .pre .1 0 (omega arith) in
+    (omega (arith, of-y, of-0), omega (arith, of-y, of-0))
 
 mul-t14 : tie.Need-mul-t14 Inv-loop μ-loop
 mul-t14 c = omega arith

@@ -3,7 +3,7 @@ use Prim.Native.Nat.{_≤_, _-_}
 use mathlib.Core.Path.{_≡_}
 use native.Mathlib.Omega.{arith}
 use lib.ListN.{length}
-use Rattle.tree_checks.specs.Walk.{Filled, filled-none, filled-more}
+use Rattle.tree_walks.specs.Walk.{Filled, filled-none, filled-more}
 use Rattle.pivot_rules.specs.Entering.{reachOf}
 use Rattle.pivot_rules.proofs.entering.reaches.Statement.{statement}
 use Rattle.pivot_rules.proofs.entering.reaches.Tie as tie

@@ -1,7 +1,7 @@
 use Prim.Native.Nat.{_-_, _≤_}
 use mathlib.Core.Path.{_≡_, refl}
 use native.Mathlib.Omega.{arith}
-use Rattle.tree_checks.specs.Walk.{Filled, filled-none, filled-more}
+use Rattle.tree_walks.specs.Walk.{Filled, filled-none, filled-more}
 use Rattle.tree_checks.proofs.checks.clear.Statement.{statement}
 use Rattle.tree_checks.proofs.checks.clear.Tie as tie
 

@@ -1,6 +1,7 @@
 use mathlib.Core.Path.{refl}
 use lib.ListN.{length-take}
 use native.Mathlib.Omega.{arith}
+use Rattle.weight_mover.specs.AnswerLaws.{told-refused, told-done}
 use Rattle.weight_mover.proofs.answer.weigh_front.Statement.{statement}
 use Rattle.weight_mover.proofs.answer.weigh_front.Tie as tie
 
@@ -28,17 +29,41 @@ slice-aggregate-evaluate-7 c = omega arith
 evaluate-requires : tie.Need-evaluate-requires
 evaluate-requires c κs = omega arith
 
-same-length : tie.Need-same-length
-same-length c = omega arith
-
-same-length-2 : tie.Need-same-length-2
-same-length-2 c = omega arith
+refused-requires : tie.Need-refused-requires
+refused-requires c κs = omega arith
 
 returns : tie.Need-returns
-returns c = (
-  record { imbalances = _; imbalances' = _; evaluated = c .before .before .before .before .evaluate .ensures; long = omega arith },
-  (refl, refl, refl),
-)
+returns c =
+    record {
+      imbalances = _;
+      imbalances' = _;
+      k = _;
+      cost = _;
+      moved = _;
+      evaluated = c .before .before .before .before .evaluate .ensures;
+      told = told-refused (c .before .if1 .taken) (c .refused .ensures);
+      long = omega arith;
+      long-potentials = c .before .before .before .before .before .before .evaluate-arg7 .given .0 .1;
+      long-entries = c .before .before .before .before .before .evaluate-arg8 .given .0 .1;
+    }
+
+new-requires : tie.Need-new-requires
+new-requires c κs = omega arith
+
+returns-2 : tie.Need-returns-2
+returns-2 c =
+    record {
+      imbalances = _;
+      imbalances' = _;
+      k = _;
+      cost = _;
+      moved = _;
+      evaluated = c .before .before .before .before .evaluate .ensures;
+      told = told-done (c .before .if1 .left) refl (c .new .ensures) refl refl refl;
+      long = omega arith;
+      long-potentials = c .before .before .before .before .before .before .evaluate-arg7 .given .0 .1;
+      long-entries = c .before .before .before .before .before .evaluate-arg8 .given .0 .1;
+    }
 
 pub weigh-front-spec : {M : Type 1} → statement M
 weigh-front-spec =
@@ -52,6 +77,7 @@ weigh-front-spec =
     slice-aggregate-evaluate-6
     slice-aggregate-evaluate-7
     evaluate-requires
-    same-length
-    same-length-2
-    returns)
+    refused-requires
+    returns
+    new-requires
+    returns-2)

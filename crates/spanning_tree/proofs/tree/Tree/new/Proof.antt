@@ -1,30 +1,35 @@
 use Prim.Native.Nat.{_+_, _-_, _≤_}
 use mathlib.Core.Path.{_≡_, refl}
-use native.Mathlib.Omega.{arith}
-use lib.ListN.{length}
-use lib.ListN.{drop, length-set}
 use mathlib.Core.List.{_++_}
+use native.Mathlib.Omega.{arith}
 use lib.Dec.{ltb}
+use lib.ListN.{length, drop, length-set}
 use Rattle.arithmetic.specs.Sum.{pick}
 use Rattle.arithmetic.specs.Table.{at, tab, tab-none, tab-store}
-use Rattle.spanning_tree.proofs.Known.{held-all}
+use Rattle.spanning_tree.proofs.Known.{listed-here, held-all}
 use Rattle.spanning_tree.proofs.tree.Tree.new.Statement.{statement}
 use Rattle.spanning_tree.proofs.tree.Tree.new.Tie as tie
 
 abbrev Inv-loop : tie.InvT-loop
-Inv-loop n root parents held₀ x₀ held x = (x ≤ 64) × ((length held ≡ 64) × (held ≡ tab x (λ z. pick (ltb z n) (at parents z)) ++ drop x held₀))
+Inv-loop n root parents held₀ count x₀ held x = (x ≤ count) × ((length held ≡ 64) × (held ≡ tab x (λ z. pick (ltb z n) (at parents z)) ++ drop x held₀))
 
 abbrev μ-loop : tie.MeasureT-loop
-μ-loop n root parents held₀ x₀ held x = 64 - x
+μ-loop n root parents held₀ count x₀ held x = count - x
+
+held-count-requires : tie.Need-held-count-requires Inv-loop μ-loop
+held-count-requires c κs = omega arith
 
 loop-holds : tie.Need-loop-holds Inv-loop μ-loop
 loop-holds c = (omega arith, (refl, tab-none _ _))
 
-listed-requires : tie.Need-listed-requires Inv-loop μ-loop
-listed-requires c κs = omega arith
-
 mul-held : tie.Need-mul-held Inv-loop μ-loop
 mul-held c = omega arith
+
+shared-slice-read-held : tie.Need-shared-slice-read-held Inv-loop μ-loop
+shared-slice-read-held c = omega arith
+
+mul-held-2 : tie.Need-mul-held-2 Inv-loop μ-loop
+mul-held-2 c = omega arith
 
 array-write-held : tie.Need-array-write-held Inv-loop μ-loop
 array-write-held c = omega arith
@@ -36,10 +41,11 @@ loop-less : tie.Need-loop-less Inv-loop μ-loop
 loop-less c = omega arith
 
 loop-again : tie.Need-loop-again Inv-loop μ-loop
-loop-again c = (omega arith, (simp length-set (c .before .before .loop .inv .1 .0), tab-store _ _ _ _ _ (omega arith) (c .before .before .loop .inv .1 .1) (c .listed .ensures)))
+loop-again c = let l = c .before .before .loop in
+    (omega arith, (simp length-set (l .inv .1 .0), tab-store _ _ _ _ _ (omega arith) (l .inv .1 .1) (listed-here (c .before .before .before .before .before .args .n) (c .before .before .before .before .before .args .parents .now) (l .x) (omega (arith, c .before .before .before .held-count .ensures, c .before .loop-test .taken)))))
 
 returns : tie.Need-returns Inv-loop μ-loop
-returns c = (refl, (refl, held-all _ _ _ _ (omega arith) refl (c .before .loop .inv .1 .1)))
+returns c = (refl, (refl, held-all (c .before .before .before .before .args .n) _ _ (c .before .before .before .before .args .parents .now) _ _ (c .before .before .held-count .ensures) (omega (arith, c .loop-test .left)) refl refl (c .before .loop .inv .1 .1)))
 
 pub new-spec : {M : Type 1} → statement M
 new-spec =
@@ -47,9 +53,11 @@ new-spec =
     (tie.spec
     Inv-loop
     μ-loop
+    held-count-requires
     loop-holds
-    listed-requires
     mul-held
+    shared-slice-read-held
+    mul-held-2
     array-write-held
     add-x
     loop-less

@@ -1,0 +1,237 @@
+-- The figures of a tree, its plan and its checks depend on the values at the vertices below n alone.
+use Prim.Native.Nat.{ℕ, zero, suc, _*_, min, _≤_, _<_}
+use mathlib.Core.Path.{_≡_, refl, sym, ap, _∙_}
+use mathlib.Core.Bool.{Bool, true, false, not, cond, _&&_, _||_}
+use native.Mathlib.Omega.{arith}
+use lib.Dec.{eqb, ltb}
+use lib.IntN.{ℤ}
+use borrow.Author.Tests.{ltb-true, le-ltb}
+use Rattle.arithmetic.specs.Bools.{case, case<, all, all-at, and-l, and-r}
+use Rattle.arithmetic.specs.Sum.{sum-ext}
+use Rattle.arithmetic.specs.Integer.{sumℤ-ext}
+use Rattle.vertex_set.specs.LowestLaws.{lowest-ext}
+use Rattle.rooted_tree.specs.Chain.{climb, below, depth}
+use Rattle.graph.specs.Graph.{Graph, joined}
+use Rattle.graph.specs.SpanningTree.{SpanningTree}
+use Rattle.graph.specs.Distance.{distance}
+use Rattle.tree_checks.specs.Checks.{totalsOk, totalsEqual, measureRefusal, parentsOk, treeEdgesOk, chainsOk, treeRefusal}
+use Rattle.tree_evaluation.specs.Weigh.{imbalance, potential, treeCost}
+use Rattle.transport_plan.specs.Plan.{Making, started, sends, sender, receiver, moved, settled, layer, layers, plan}
+use Rattle.duality.specs.Best.{planCost, Best}
+use Rattle.duality.specs.BestLaws.{Certificate}
+
+-- f and g agree below n
+abbrev pub Same : {A : Type 0} → ℕ → (ℕ → A) → (ℕ → A) → Type 0
+Same n f g = (x : ℕ) → x < n → f x ≡ g x
+
+-- ---- trees
+
+-- p and q are the same tree on the vertices below n
+pub record SameTree (n r : ℕ) (p q : ℕ → ℕ) : Type 0 where
+  pub parents : Same n p q
+  pub subtrees : (y x : ℕ) → y < n → below p n y x ≡ below q n y x
+  pub depths : Same n (depth p r n) (depth q r n)
+
+pub itself : (n r : ℕ) (p : ℕ → ℕ) → SameTree n r p p
+itself n r p = record { parents = λ x l. refl; subtrees = λ y x l. refl; depths = λ x l. refl }
+
+module _ {n : ℕ} {p q : ℕ → ℕ} (same : Same n p q) (into : (x : ℕ) → x < n → p x < n) where
+  climb-same : (k : ℕ) → Same n (climb p k) (climb q k)
+  unfolding climb
+  climb-same zero y l = refl
+  climb-same (suc k) y l = climb-same k (p y) (into y l) ∙ ap (climb q k) (same y l)
+
+  below-same : (k y x : ℕ) → y < n → below p k y x ≡ below q k y x
+  unfolding below
+  below-same zero y x l = refl
+  below-same (suc k) y x l =
+      ap (λ (b : Bool). eqb y x || b) (below-same k (p y) x (into y l) ∙ ap (λ (z : ℕ). below q k z x) (same y l))
+
+  depth-same : (r k : ℕ) → Same n (depth p r k) (depth q r k)
+  unfolding depth
+  depth-same r zero y l = refl
+  depth-same r (suc k) y l =
+      ap (λ (d : ℕ). cond (eqb y r) 0 (suc d)) (depth-same r k (p y) (into y l) ∙ ap (depth q r k) (same y l))
+
+  pub same-tree : (r : ℕ) → SameTree n r p q
+  same-tree r = record { parents = same; subtrees = below-same n; depths = depth-same r n }
+
+-- ---- weighing
+
+module _ (g : Graph) {r : ℕ} {p q mu mu' nu nu' : ℕ → ℕ} (tree : SameTree (g .n) r p q) (before : Same (g .n) mu mu')
+    (after : Same (g .n) nu nu') where
+  imbalance-same : (x : ℕ) → imbalance (g .n) p mu nu x ≡ imbalance (g .n) q mu' nu' x
+  unfolding imbalance
+  imbalance-same x = sumℤ-ext (g .n) _ _ (λ y l. rw (tree .subtrees y x l, before y l, after y l))
+
+  pub treeCost-same : treeCost g r p mu nu ≡ treeCost g r q mu' nu'
+  unfolding treeCost
+  treeCost-same = sum-ext (g .n) _ _ (λ x l. rw (tree .parents x l, imbalance-same x))
+
+  pub potential-same : Same (g .n) (potential g r p mu nu) (potential g r q mu' nu')
+  unfolding potential
+  potential-same y h = sumℤ-ext (g .n) _ _ (λ x l. rw (tree .subtrees y x h, tree .parents x l, imbalance-same x))
+
+-- ---- the plan
+
+-- two plans that are being made agree
+record Agree (n : ℕ) (s t : Making) : Type 0 where
+  pub sent : (i j : ℕ) → i < n → j < n → s .sent i j ≡ t .sent i j
+  pub surplus : Same n (s .surplus) (t .surplus)
+  pub deficit : Same n (s .deficit) (t .deficit)
+
+-- the same move, if it is one
+abbrev moving : ℕ → Making → ℕ → ℕ → Making
+moving n s i j = cond (ltb i n && ltb j n) (sends s i j (min (s .surplus i) (s .deficit j))) s
+
+sends-agree : (n i j : ℕ) {v w : ℕ} {s t : Making} → i < n → j < n → v ≡ w → Agree n s t → Agree n (sends s i j v) (sends t i j w)
+sends-agree n i j hi hj e a = record {
+  sent = λ x y hx hy. case (eqb x i) (λ f. rw (f, a .sent i j hi hj, a .sent i y hi hy, e)) (λ f. rw (f, a .sent x y hx hy));
+  surplus = λ x h. rw (a .surplus i hi, a .surplus x h, e);
+  deficit = λ x h. rw (a .deficit j hj, a .deficit x h, e);
+}
+
+moving-agree : (n i j : ℕ) {s t : Making} → Agree n s t → Agree n (moving n s i j) (moving n t i j)
+moving-agree n i j a =
+    case (ltb i n && ltb j n)
+    (λ e.
+    let hi = ltb-true i n (and-l (ltb i n) (ltb j n) e) in
+    let hj = ltb-true j n (and-r (ltb i n) (ltb j n) e) in
+    rw e (sends-agree n i j hi hj (rw (a .surplus i hi, a .deficit j hj)) a))
+    (λ e. rw e a)
+
+module _ {n : ℕ} {b c : ℕ → Bool} (same : Same n b c) where
+  moved-agree : {s t : Making} → Agree n s t → Agree n (moved n b s) (moved n c t)
+  unfolding moved
+  moved-agree {s} {t} a =
+      let i : sender n b s ≡ sender n c t
+      = lowest-ext _ _ n 0 (λ x l. rw (same x (omega arith), a .surplus x (omega arith))) in
+      let j : receiver n b s ≡ receiver n c t
+      = lowest-ext _ _ n 0 (λ x l. rw (same x (omega arith), a .deficit x (omega arith))) in
+      rw (i, j) (moving-agree n (sender n c t) (receiver n c t) a)
+
+  settled-agree : (k : ℕ) {s t : Making} → Agree n s t → Agree n (settled n b k s) (settled n c k t)
+  unfolding settled
+  settled-agree zero a = a
+  settled-agree (suc k) a = settled-agree k (moved-agree a)
+
+either-agree : {n : ℕ} {s s' t t' : Making} (b : Bool) → Agree n s t → Agree n s' t' → Agree n (cond b s s') (cond b t t')
+either-agree true a a' = a
+either-agree false a a' = a'
+
+module _ {n r : ℕ} {p q : ℕ → ℕ} (tree : SameTree n r p q) where
+  layer-agree : (d k : ℕ) {s t : Making} → k ≤ n → Agree n s t → Agree n (layer n r p d k s) (layer n r q d k t)
+  unfolding layer
+  layer-agree d zero h a = a
+  layer-agree d (suc k) h a =
+      rw (tree .depths k (omega arith))
+      (either-agree (eqb (depth q r n k) d) (settled-agree (λ y l. tree .subtrees y k l) n (layer-agree d k (omega arith) a))
+      (layer-agree d k (omega arith) a))
+
+  layers-agree : (d : ℕ) {s t : Making} → Agree n s t → Agree n (layers n r p d s) (layers n r q d t)
+  unfolding layers
+  layers-agree zero a = a
+  layers-agree (suc d) a = layers-agree d (layer-agree d n (omega arith) a)
+
+  pub plan-same : {mu mu' nu nu' : ℕ → ℕ} → Same n mu mu' → Same n nu nu'
+      → (i j : ℕ) → i < n → j < n → plan n r p mu nu i j ≡ plan n r q mu' nu' i j
+  unfolding plan
+  plan-same {mu} {mu'} {nu} {nu'} before after =
+      let start : Agree n (started mu nu) (started mu' nu') = record {
+        sent = λ i j h _. rw (before i h, after i h);
+        surplus = λ x l. rw (before x l, after x l);
+        deficit = λ x l. rw (before x l, after x l);
+      } in
+      layers-agree n start .sent
+
+-- ---- checks 6 to 10
+
+pub measures-same : (n : ℕ) {mu mu' nu nu' : ℕ → ℕ} → Same n mu mu' → Same n nu nu' → (rest : ℕ)
+    → measureRefusal n mu nu rest ≡ measureRefusal n mu' nu' rest
+unfolding totalsOk totalsEqual
+measures-same n before after rest = rw (sum-ext n _ _ before, sum-ext n _ _ after)
+
+all-same : (n : ℕ) (f g : ℕ → Bool) → Same n f g → all n f ≡ all n g
+unfolding all
+all-same zero f g h = refl
+all-same (suc n) f g h = rw (all-same n f g (λ x l. h x (omega arith)), h n (omega arith))
+
+module _ (g : Graph) (r : ℕ) {p q : ℕ → ℕ} (same : Same (g .n) p q) where
+  parentsOk-same : parentsOk (g .n) r p ≡ parentsOk (g .n) r q
+  unfolding parentsOk
+  parentsOk-same =
+      case< r (g .n)
+      (λ h. rw (
+        same r h,
+        all-same (g .n) (λ x. ltb (p x) (g .n)) (λ x. ltb (q x) (g .n)) (λ x l. rw (same x l)),
+        all-same (g .n) (λ x. eqb x r || not (eqb (p x) x)) (λ x. eqb x r || not (eqb (q x) x)) (λ x l. rw (same x l)),
+      ))
+      (λ h. rw (le-ltb r (g .n) h))
+
+  -- what check 8 says of the parents and the root
+  pub parents-into : parentsOk (g .n) r p ≡ true → (r < g .n) × ((x : ℕ) → x < g .n → p x < g .n)
+  unfolding parentsOk
+  parents-into h =
+      let rest = and-r (ltb r (g .n)) _ h in (
+        ltb-true r (g .n) (and-l (ltb r (g .n)) _ h),
+        λ x l. ltb-true (p x) (g .n) (all-at (g .n) _ (and-l (all (g .n) (λ x. ltb (p x) (g .n))) _ rest) x l),
+      )
+
+  edges-same : treeEdgesOk g r p ≡ treeEdgesOk g r q
+  unfolding treeEdgesOk
+  edges-same = all-same (g .n) _ _ (λ x l. rw (same x l))
+
+  chains-same : ((x : ℕ) → x < g .n → p x < g .n) → chainsOk (g .n) r p ≡ chainsOk (g .n) r q
+  unfolding chainsOk
+  chains-same into = all-same (g .n) _ _ (λ x l. rw (climb-same same into (g .n) x l))
+
+  pub tree-same : treeRefusal g r p ≡ treeRefusal g r q
+  tree-same =
+      case (parentsOk (g .n) r p)
+      (λ e. rw (← parentsOk-same, edges-same, chains-same (parents-into e .1)))
+      (λ e. rw (← parentsOk-same, e))
+
+-- ---- certificates
+
+module _ (g : Graph) {p q : ℕ → ℕ} (same : Same (g .n) p q) (into : (x : ℕ) → x < g .n → p x < g .n) where
+  spanning-same : {r : ℕ} → SpanningTree g r p → SpanningTree g r q
+  spanning-same {r} t = record {
+    root = t .root;
+    stay = sym (same r (t .root)) ∙ t .stay;
+    edge = λ x l d. ap (joined g x) (sym (same x l)) ∙ t .edge x l d;
+    chain = λ x l. (t .chain x l .0, sym (climb-same same into (t .chain x l .0) x l) ∙ t .chain x l .1);
+  }
+
+  pub certificate-same : {mu nu U : ℕ → ℕ} → Certificate g mu nu p U → Certificate g mu nu q U
+  certificate-same {mu} {nu} c = record {
+    spanning = spanning-same (c .spanning);
+    within = c .within;
+    weighs = rw (← treeCost-same g {mu = mu} {mu' = mu} {nu = nu} {nu' = nu} (same-tree same into 0) (λ x l. refl) (λ x l. refl)) (c .weighs);
+  }
+
+-- ---- demand 3
+
+planCost-same : (g : Graph) (t t' : ℕ → ℕ → ℕ) → ((i j : ℕ) → i < g .n → j < g .n → t i j ≡ t' i j) → planCost g t ≡ planCost g t'
+unfolding planCost
+planCost-same g t t' h = sum-ext (g .n) _ _ (λ i l. sum-ext (g .n) _ _ (λ j k. ap (λ (x : ℕ). x * distance g i j) (h i j l k)))
+
+module _ {g : Graph} {mu mu' nu nu' p : ℕ → ℕ} {t t' : ℕ → ℕ → ℕ} {u : ℕ → ℤ} {cost : ℕ} (before : Same (g .n) mu mu')
+    (after : Same (g .n) nu nu') (entries : (i j : ℕ) → i < g .n → j < g .n → t i j ≡ t' i j) where
+  pub best-same : Best g mu nu p t u cost → Best g mu' nu' p t' u cost
+  best-same b = record {
+    carries = record {
+      rows = λ i l. sym (sum-ext (g .n) _ _ (λ j k. entries i j l k)) ∙ b .carries .rows i l ∙ before i l;
+      columns = λ j l. sym (sum-ext (g .n) _ _ (λ i k. entries i j k l)) ∙ b .carries .columns j l ∙ after j l;
+    };
+    least-plan = λ v c.
+        rw (← planCost-same g t t' entries)
+        (b .least-plan v (record { rows = λ i l. c .rows i l ∙ sym (before i l); columns = λ j l. c .columns j l ∙ sym (after j l) }));
+    spanning = b .spanning;
+    least-tree = λ r q s.
+        rw (← treeCost-same g (itself (g .n) 0 p) before after, ← treeCost-same g (itself (g .n) r q) before after) (b .least-tree r q s);
+    plan-cost = sym (planCost-same g t t' entries) ∙ b .plan-cost;
+    tree-cost = sym (treeCost-same g (itself (g .n) 0 p) before after) ∙ b .tree-cost;
+    zero-at-0 = b .zero-at-0;
+    within = b .within;
+    weighs = sumℤ-ext (g .n) _ _ (λ y l. rw (before y l, after y l)) ∙ b .weighs;
+  }

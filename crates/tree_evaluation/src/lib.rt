@@ -1,0 +1,108 @@
+// Evaluating a given tree, document 01's weighing.
+ghost use mathlib.Core.List.{List};
+ghost use Prim.Native.Nat.{ℕ};
+ghost use Rattle.arithmetic.specs.Table.{at};
+ghost use Rattle.graph.specs.Graph.{graph};
+ghost use Rattle.spanning_tree.specs.Given.{given};
+ghost use Rattle.tree_evaluation.specs.Evaluate.{Evaluated};
+ghost use Rattle.tree_evaluation.specs.EvaluateTree.{LengthsTo, Evaluable, TreeEvaluated};
+
+mod figures;
+
+use spanning_tree::given;
+use spanning_tree::tree::Tree;
+use transport_plan::tree_plan;
+use tree_walks::sums;
+
+// 0 or a refusal number, with the cost of the tree and the moves of its plan
+pub struct Evaluation {
+    pub refusal: u32,
+    pub cost: u64,
+    pub moves: u32,
+}
+
+// the cost of an accepted tree, and the moves of its plan
+pub struct TreeValue {
+    pub cost: u64,
+    pub moves: u32,
+}
+
+// Evaluates an accepted tree, on every graph whose lengths from a vertex to its parent are in `above`: fills in its imbalances and its plan.
+pub fn evaluate_tree(
+    tree: Tree,
+    above: &[u32],
+    mu: &[u64],
+    nu: &[u64],
+    imbalance: &mut [i32],
+    plan: &mut [u32],
+) -> TreeValue
+    requires { ⌜ Evaluable (tree .n) (tree .root) (tree .parents) (now above) (now mu) (now nu) (now imbalance) (now plan) ⌝ }
+    ensures { λ r. ⌜ ((a b lengths : List ℕ) → LengthsTo (graph (tree .n) a b lengths) (tree .root) (at (tree .parents)) (at (now (above .entry)))
+        → TreeEvaluated (graph (tree .n) a b lengths) (tree .root) (at (tree .parents)) (at (now (mu .entry))) (at (now (nu .entry)))
+        (now (imbalance .entry)) (now (plan .entry)) (r .cost) (r .moves) (now (imbalance .exit)) (now (plan .exit))) ⌝ }
+{
+    let n = tree.n;
+    let root = tree.root;
+    let parents = tree.parents;
+    let mut depth = [0u32; 64];
+    let mut masks = [0u64; 64];
+    let mut supply = [0u64; 64];
+    let mut demand = [0u64; 64];
+    sums::subtree_tables(
+        n,
+        root,
+        &parents,
+        mu,
+        nu,
+        &mut depth,
+        &mut masks,
+        &mut supply,
+        &mut demand,
+    );
+    figures::write_imbalance(n, &supply, &demand, imbalance);
+    let cost = figures::tree_cost(n, root, above, &supply, &demand);
+    let moves = tree_plan(tree, &depth, &masks, mu, nu, plan);
+    TreeValue {
+        cost: cost,
+        moves: moves,
+    }
+}
+
+// Evaluates a given tree: fills in its imbalances, its potential and its plan.
+pub fn evaluate(
+    n: usize,
+    a: &[u32],
+    b: &[u32],
+    lengths: &[u32],
+    mu: &[u64],
+    nu: &[u64],
+    root: usize,
+    parents: &[u32],
+    imbalance: &mut [i32],
+    potential: &mut [i32],
+    plan: &mut [u32],
+) -> Evaluation
+    ensures { λ r. ⌜ Evaluated (graph n (now (a .entry)) (now (b .entry)) (now (lengths .entry)))
+        (given (now (mu .entry)) (now (nu .entry)) root (now (parents .entry)))
+        (now (imbalance .entry)) (now (potential .entry)) (now (plan .entry)) (r .refusal) (r .cost) (r .moves)
+        (now (imbalance .exit)) (now (potential .exit)) (now (plan .exit)) ⌝ }
+{
+    let mut above = [0u32; 64];
+    let room = given::has_room(n, imbalance.len(), potential.len(), plan.len());
+    let k = given::given_refusal(n, a, b, lengths, mu, nu, root, parents, room, &mut above);
+    if k != 0 {
+        return Evaluation {
+            refusal: k,
+            cost: 0,
+            moves: 0,
+        };
+    }
+    let tree = Tree::new(n, root, parents);
+    let value = evaluate_tree(tree, &above, mu, nu, imbalance, plan);
+    figures::write_potential(tree, &above, imbalance, potential);
+    Evaluation {
+        refusal: 0,
+        cost: value.cost,
+        moves: value.moves,
+    }
+}

@@ -1,0 +1,5 @@
+pub mod AddingUp
+pub mod Ascending
+pub mod Signed
+pub mod Tabled
+pub mod Walking

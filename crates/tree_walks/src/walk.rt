@@ -1,0 +1,86 @@
+// Walks up the parents of a rooted tree: depths, and the masks of the subtrees.
+ghost use mathlib.Core.Path.{_≡_};
+ghost use Prim.Native.Nat.{_^_, _≤_, _<_};
+ghost use lib.Bits.{bitOr};
+ghost use lib.ListN.{length, set};
+ghost use Rattle.arithmetic.specs.Table.{at};
+ghost use Rattle.arithmetic.specs.Mask.{mask};
+ghost use Rattle.rooted_tree.specs.Chain.{below, depth};
+ghost use Rattle.rooted_tree.specs.Rooted.{Rooted};
+ghost use Rattle.tree_walks.specs.Walk.{Filled, WalkedUp};
+
+// the depth of x
+pub fn depth_of(n: usize, root: usize, parents: &[u32], x: usize) -> u32
+    requires { ⌜ (n ≤ 64) × ((n ≤ length (now parents)) × (x < n)) ⌝ }
+    requires tree { ⌜ Rooted n root (at (now parents)) ⌝ }
+    ensures { λ d. ⌜ d ≡ depth (at (now (parents .entry))) root n x ⌝ }
+{
+    let mut y = x;
+    let mut d: u32 = 0;
+    while y != root {
+        y = parents[y] as usize;
+        d += 1;
+    }
+    d
+}
+
+// the depth of each vertex
+pub fn depths(n: usize, root: usize, parents: &[u32], out: &mut [u32])
+    requires { ⌜ (n ≤ 64) × ((n ≤ length (now parents)) × (n ≤ length (now out))) ⌝ }
+    requires tree { ⌜ Rooted n root (at (now parents)) ⌝ }
+    ensures { λ _. ⌜ Filled n (depth (at (now (parents .entry))) root n) (now (out .entry)) (now (out .exit)) ⌝ }
+{
+    let mut x: usize = 0;
+    while x < n {
+        out[x] = depth_of(n, root, parents, x);
+        x += 1;
+    }
+}
+
+// sets y's bit in the mask of x
+pub fn mark(x: usize, y: usize, masks: &mut [u64])
+    requires { ⌜ (x < length (now masks)) × (y < 64) ⌝ }
+    ensures { λ _. ⌜ now (masks .exit) ≡ set (now (masks .entry)) x (bitOr (at (now (masks .entry)) x) (2 ^ y)) ⌝ }
+{
+    masks[x] = masks[x] | (1u64 << y);
+}
+
+// sets y's bit in the mask of each x that y is below, and changes no other bit
+pub fn walk_up(n: usize, root: usize, parents: &[u32], y: usize, masks: &mut [u64])
+    requires { ⌜ (n ≤ 64) × ((n ≤ length (now parents)) × ((n ≤ length (now masks)) × (y < n))) ⌝ }
+    requires tree { ⌜ Rooted n root (at (now parents)) ⌝ }
+    ensures { λ _. ⌜ WalkedUp n (at (now (parents .entry))) y (now (masks .entry)) (now (masks .exit)) ⌝ }
+{
+    let mut x = y;
+    while x != root {
+        mark(x, y, masks);
+        x = parents[x] as usize;
+    }
+    mark(root, y, masks);
+}
+
+// zeros in the first n places
+pub fn clear(n: usize, out: &mut [u64])
+    requires { ⌜ n ≤ length (now out) ⌝ }
+    ensures { λ _. ⌜ Filled n (λ _. 0) (now (out .entry)) (now (out .exit)) ⌝ }
+{
+    let mut x: usize = 0;
+    while x < n {
+        out[x] = 0;
+        x += 1;
+    }
+}
+
+// the mask of each vertex: the vertices below it, gathered by one walk up from each vertex
+pub fn subtree_masks(n: usize, root: usize, parents: &[u32], masks: &mut [u64])
+    requires { ⌜ (n ≤ 64) × ((n ≤ length (now parents)) × (n ≤ length (now masks))) ⌝ }
+    requires tree { ⌜ Rooted n root (at (now parents)) ⌝ }
+    ensures { λ _. ⌜ Filled n (λ x. mask n (λ y. below (at (now (parents .entry))) n y x)) (now (masks .entry)) (now (masks .exit)) ⌝ }
+{
+    clear(n, masks);
+    let mut y: usize = 0;
+    while y < n {
+        walk_up(n, root, parents, y, masks);
+        y += 1;
+    }
+}

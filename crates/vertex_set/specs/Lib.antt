@@ -1,0 +1,4 @@
+pub mod Lowest
+pub mod LowestLaws
+pub mod Words
+pub mod Without

@@ -106,6 +106,19 @@ all-intro (suc m) p h = and-true (all m p) (p m) (all-intro m p (λ i l. h i (om
 pub all-fails : (m : ℕ) (p : ℕ → Bool) (i : ℕ) → i < m → p i ≡ false → all m p ≡ false
 all-fails m p i l f = is-false _ (λ h. clash (all-at m p h i l) f)
 
+-- a loop over all that met no failure
+pub all-end : (i m : ℕ) (p : ℕ → Bool) → i ≤ m → m ≤ i → all i p ≡ true → true ≡ all m p
+all-end i m p g h e = let q : i ≡ m = omega arith in sym (rw q at e)
+
+-- a number at which it fails
+pub all-missed : (m : ℕ) (p : ℕ → Bool) → all m p ≡ false → (i : ℕ) × ((i < m) × (p i ≡ false))
+unfolding all
+all-missed zero p h = clash refl h
+all-missed (suc m) p h =
+    case (all m p)
+    (λ e. (m, (omega arith, rw e at h)))
+    (λ e. let z = all-missed m p e in (z .0, (omega (arith, z .1 .0), z .1 .1)))
+
 -- p holds at some number below m
 unfoldable pub any : ℕ → (ℕ → Bool) → Bool
 any zero p = false

@@ -5,3 +5,4 @@ pub mod Table
 pub mod Matrix
 pub mod Mask
 pub mod Integer
+pub mod Refusal

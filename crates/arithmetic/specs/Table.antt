@@ -43,6 +43,15 @@ written (suc k) answer lent = lent
 
 -- ---- laws
 
+-- after a refusal a result is 0, and a table as it was lent
+pub result-refused : (k v : ℕ) → (k ≡ 0 → ⊥) → 0 ≡ result k v
+result-refused zero v d = absurd (d refl)
+result-refused (suc k) v d = refl
+
+pub written-refused : {A : Type 0} (k : ℕ) (answer lent : List A) → (k ≡ 0 → ⊥) → lent ≡ written k answer lent
+written-refused zero answer lent d = absurd (d refl)
+written-refused (suc k) answer lent d = refl
+
 pub length-tab : {A : Type 0} (m : ℕ) (f : ℕ → A) → length (tab m f) ≡ m
 unfolding tab
 length-tab zero f = refl

@@ -7,6 +7,7 @@ use lib.Dec.{eqb, ltb}
 use lib.IntN.{ℤ}
 use borrow.Author.Tests.{ltb-true, le-ltb}
 use Rattle.arithmetic.specs.Bools.{case, case<, all, all-at, and-l, and-r}
+use Rattle.arithmetic.specs.Refusal.{refusal}
 use Rattle.arithmetic.specs.Sum.{sum-ext}
 use Rattle.arithmetic.specs.Integer.{sumℤ-ext}
 use Rattle.vertex_set.specs.LowestLaws.{lowest-ext}
@@ -14,7 +15,7 @@ use Rattle.rooted_tree.specs.Chain.{climb, below, depth}
 use Rattle.graph.specs.Graph.{Graph, joined}
 use Rattle.graph.specs.SpanningTree.{SpanningTree}
 use Rattle.graph.specs.Distance.{distance}
-use Rattle.tree_checks.specs.Checks.{totalsOk, totalsEqual, measureRefusal, parentsOk, treeEdgesOk, chainsOk, treeRefusal}
+use Rattle.tree_checks.specs.Checks.{totalOk, totalsEqual, measureChecks, parentsOk, treeEdgesOk, chainsOk, treeChecks}
 use Rattle.tree_evaluation.specs.Weigh.{imbalance, potential, treeCost}
 use Rattle.transport_plan.specs.Plan.{Making, started, sends, sender, receiver, moved, settled, layer, layers, plan}
 use Rattle.duality.specs.Best.{planCost, Best}
@@ -146,10 +147,9 @@ module _ {n r : ℕ} {p q : ℕ → ℕ} (tree : SameTree n r p q) where
 
 -- ---- checks 6 to 10
 
-pub measures-same : (n : ℕ) {mu mu' nu nu' : ℕ → ℕ} → Same n mu mu' → Same n nu nu' → (rest : ℕ)
-    → measureRefusal n mu nu rest ≡ measureRefusal n mu' nu' rest
-unfolding totalsOk totalsEqual
-measures-same n before after rest = rw (sum-ext n _ _ before, sum-ext n _ _ after)
+pub measures-same : (n : ℕ) {mu mu' nu nu' : ℕ → ℕ} → Same n mu mu' → Same n nu nu' → measureChecks n mu nu ≡ measureChecks n mu' nu'
+unfolding measureChecks totalOk totalsEqual
+measures-same n before after = rw (sum-ext n _ _ before, sum-ext n _ _ after)
 
 all-same : (n : ℕ) (f g : ℕ → Bool) → Same n f g → all n f ≡ all n g
 unfolding all
@@ -185,7 +185,8 @@ module _ (g : Graph) (r : ℕ) {p q : ℕ → ℕ} (same : Same (g .n) p q) wher
   unfolding chainsOk
   chains-same into = all-same (g .n) _ _ (λ x l. rw (climb-same same into (g .n) x l))
 
-  pub tree-same : treeRefusal g r p ≡ treeRefusal g r q
+  pub tree-same : refusal (treeChecks g r p) ≡ refusal (treeChecks g r q)
+  unfolding refusal treeChecks
   tree-same =
       case (parentsOk (g .n) r p)
       (λ e. rw (← parentsOk-same, edges-same, chains-same (parents-into e .1)))

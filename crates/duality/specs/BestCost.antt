@@ -3,9 +3,10 @@ use Prim.Native.Nat.{ℕ, zero, suc, min}
 use mathlib.Core.Bool.{cond}
 use mathlib.Core.List.{List, [], _∷_, _++_, flatMap}
 use lib.Dec.{eqb}
+use Rattle.arithmetic.specs.Refusal.{refusal}
 use Rattle.arithmetic.specs.Table.{at, tab}
 use Rattle.graph.specs.Graph.{Graph}
-use Rattle.tree_checks.specs.Checks.{treeRefusal}
+use Rattle.tree_checks.specs.Checks.{treeChecks}
 use Rattle.tree_evaluation.specs.Weigh.{treeCost}
 
 -- the least of some numbers; 0 if there are none
@@ -21,7 +22,7 @@ tables n (suc k) = flatMap (λ t. tab n (λ v. t ++ (v ∷ []))) (tables n k)
 
 -- the cost of the tree with the root r and the parents in the table t, if checks 8 to 10 accept it
 abbrev pub costOf : Graph → (ℕ → ℕ) → (ℕ → ℕ) → ℕ → List ℕ → List ℕ
-costOf g mu nu r t = cond (eqb (treeRefusal g r (at t)) 0) (treeCost g r (at t) mu nu ∷ []) []
+costOf g mu nu r t = cond (eqb (refusal (treeChecks g r (at t))) 0) (treeCost g r (at t) mu nu ∷ []) []
 
 -- the costs of all spanning trees: every root with every table of parents
 unfoldable pub costs : Graph → (ℕ → ℕ) → (ℕ → ℕ) → List ℕ

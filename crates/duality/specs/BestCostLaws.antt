@@ -10,12 +10,13 @@ use lib.Dec.{eqb}
 use lib.IntN.{ℤ}
 use borrow.Author.Tests.{eqb-true}
 use Rattle.arithmetic.specs.Bools.{case, case≡, case≤}
+use Rattle.arithmetic.specs.Refusal.{refusal}
 use Rattle.arithmetic.specs.Table.{at, tab, tab-at}
 use Rattle.graph.specs.Graph.{Graph}
 use Rattle.graph.specs.SpanningTree.{SpanningTree}
 use Rattle.graph.specs.Accepted.{Accepted}
 use Rattle.graph.specs.Spanned.{spanned}
-use Rattle.tree_checks.specs.Checks.{treeRefusal}
+use Rattle.tree_checks.specs.Checks.{treeChecks}
 use Rattle.tree_checks.specs.TreeTests.{spanning-into, spanning-accepted, accepted-spanning}
 use Rattle.tree_evaluation.specs.Weigh.{treeCost}
 use Rattle.duality.specs.Best.{Plan, planCost, LeastTree, LeastPlan, Best}
@@ -90,7 +91,7 @@ module _ (g : Graph) (mu nu : ℕ → ℕ) where
   costs-from h =
       let r = flatMap-from (λ r. flatMap (costOf g mu nu r) (tables (g .n) (g .n))) (tab (g .n) (λ r. r)) h in
       let t = flatMap-from (costOf g mu nu (r .0)) (tables (g .n) (g .n)) (r .1) in
-      case (eqb (treeRefusal g (r .0) (at (t .0))) 0)
+      case (eqb (refusal (treeChecks g (r .0) (at (t .0)))) 0)
       (λ e. record {
         root = r .0;
         parents = at (t .0);
@@ -106,7 +107,7 @@ module _ (g : Graph) (mu nu : ℕ → ℕ) where
     costs-in {r} {p} t =
         let into = spanning-into g r p (acc .edges) t in
         let same : Same (g .n) p (at (tab (g .n) p)) = λ x l. sym (tab-at (g .n) p 0 x l) in
-        let fine : treeRefusal g r (at (tab (g .n) p)) ≡ 0 = sym (tree-same g r same) ∙ spanning-accepted g r p (acc .edges) t in
+        let fine : refusal (treeChecks g r (at (tab (g .n) p))) ≡ 0 = sym (tree-same g r same) ∙ spanning-accepted g r p (acc .edges) t in
         flatMap-in (λ r. flatMap (costOf g mu nu r) (tables (g .n) (g .n))) (tab (g .n) (λ r. r)) (tab-in (g .n) (λ r. r) r (t .root))
         (flatMap-in (costOf g mu nu r) (tables (g .n) (g .n)) (tables-in (g .n) (g .n) p into)
         (rw fine (List·Memᴰ·head (treeCost-same g (same-tree same into r) (λ x l. refl) (λ x l. refl)))))

@@ -1,14 +1,27 @@
 -- What a call may rely on once checks 1 to 5 have passed.
-use Prim.Native.Nat.{ℕ, suc, _≤_, _<_}
-use mathlib.Core.Path.{_≡_, refl}
-use mathlib.Core.Bool.{Bool, true, false, _&&_}
-use native.Mathlib.Omega.{arith}
+use Prim.Native.Nat.{ℕ, _≤_, _<_}
+use mathlib.Core.Path.{_≡_, refl, sym, _∙_}
+use mathlib.Core.Bool.{Bool, true}
+use mathlib.Core.List.{List}
 use lib.Dec.{ltb, leb, eqb}
 use lib.ListN.{length}
 use borrow.Author.Tests.{ltb-true, leb-true, eqb-true}
 use Rattle.arithmetic.specs.Bools.{and-l, and-r}
 use Rattle.graph.specs.Graph.{Graph, edges}
-use Rattle.graph.specs.Checks.{verticesOk, listsOk, edgesOk, lengthsOk, connected, check, graphRefusal}
+use Rattle.arithmetic.specs.Refusal.{refusal, testOf, numbered, every-holds}
+use Rattle.graph.specs.Checks.{verticesOk, listsFit, listsOk, edgesOk, lengthsOk, connected, sizeChecks, edgeChecks, graphChecks}
+
+-- checks 1 and 2
+pub record Sized (g : Graph) : Type 0 where
+  pub vertices : verticesOk (g .n) ≡ true
+  pub lists : listsOk g ≡ true
+
+-- checks 1 to 4
+pub record WellFormed (g : Graph) : Type 0 where
+  pub vertices : verticesOk (g .n) ≡ true
+  pub lists : listsOk g ≡ true
+  pub edges : edgesOk g ≡ true
+  pub lengths : lengthsOk g ≡ true
 
 -- checks 1 to 5
 pub record Accepted (g : Graph) : Type 0 where
@@ -24,48 +37,37 @@ unfolding verticesOk
 vertices-in n h = (ltb-true 0 n (and-l (ltb 0 n) (leb n 64) h), leb-true n 64 (and-r (ltb 0 n) (leb n 64) h))
 
 -- check 2, as numbers
-pub lists-in : (g : Graph) → listsOk g ≡ true
-    → (edges g ≤ 512) × ((length (g .upper) ≡ edges g) × (length (g .lengths) ≡ edges g))
-unfolding listsOk
-lists-in g h =
-    let t = and-r (leb (edges g) 512) _ h in (
-      leb-true _ 512 (and-l (leb (edges g) 512) _ h),
-      (eqb-true _ _ (and-l (eqb (length (g .upper)) (edges g)) _ t), eqb-true _ _ (and-r (eqb (length (g .upper)) (edges g)) _ t)),
+pub lists-fit-in : (a b l : List ℕ) → listsFit a b l ≡ true → (length a ≤ 512) × ((length b ≡ length a) × (length l ≡ length a))
+unfolding listsFit
+lists-fit-in a b l h =
+    let t = and-r (leb (length a) 512) _ h in (
+      leb-true _ 512 (and-l (leb (length a) 512) _ h),
+      (eqb-true _ _ (and-l (eqb (length b) (length a)) _ t), eqb-true _ _ (and-r (eqb (length b) (length a)) _ t)),
     )
 
--- a check that refuses nothing passed, and so did those after it
-pub check-passed : (k : ℕ) (b : Bool) (rest : ℕ) → 0 < k → check k b rest ≡ 0 → (b ≡ true) × (rest ≡ 0)
-check-passed k true rest l h = (refl, h)
-check-passed k false rest l h = absurd (omega arith)
+pub lists-in : (g : Graph) → listsOk g ≡ true → (edges g ≤ 512) × ((length (g .upper) ≡ edges g) × (length (g .lengths) ≡ edges g))
+lists-in g = lists-fit-in (g .lower) (g .upper) (g .lengths)
 
-five-refused : (a b c d e : Bool) (k rest : ℕ) → check 1 a (check 2 b (check 3 c (check 4 d (check 5 e 0)))) ≡ suc k
-    → check 1 a (check 2 b (check 3 c (check 4 d (check 5 e rest)))) ≡ suc k
-five-refused false b c d e k rest h = h
-five-refused true false c d e k rest h = h
-five-refused true true false d e k rest h = h
-five-refused true true true false e k rest h = h
-five-refused true true true true false k rest h = h
-five-refused true true true true true k rest h = absurd (omega arith)
+-- checks 1 to 5 refuse nothing: all of it is accepted, the call's own tables too
+pub graph-passed : (g : Graph) (t : Bool) → refusal (graphChecks g t) ≡ 0 → Accepted g × (t ≡ true)
+unfolding sizeChecks edgeChecks testOf numbered
+graph-passed g t h =
+    let k = every-holds (graphChecks g t) refl h in
+    (record { vertices = k 1; lists = and-l (listsOk g) t (k 2); edges = k 3; lengths = k 4; connected = k 5 }, and-r (listsOk g) t (k 2))
 
-module _ (g : Graph) (t : Bool) where
-  -- nothing is refused: the five checks passed, the call's own tables are fine, and nothing after them refuses
-  pub not-refused : (rest : ℕ) → graphRefusal g t rest ≡ 0 → Accepted g × ((t ≡ true) × (rest ≡ 0))
-  unfolding graphRefusal
-  not-refused rest h =
-      let p1 = check-passed 1 (verticesOk (g .n)) _ (omega arith) h in
-      let p2 = check-passed 2 (listsOk g && t) _ (omega arith) (p1 .1) in
-      let p3 = check-passed 3 (edgesOk g) _ (omega arith) (p2 .1) in
-      let p4 = check-passed 4 (lengthsOk g) _ (omega arith) (p3 .1) in
-      let p5 = check-passed 5 (connected g) _ (omega arith) (p4 .1) in (
-        record { vertices = p1 .0; lists = and-l (listsOk g) t (p2 .0); edges = p3 .0; lengths = p4 .0; connected = p5 .0 },
-        (and-r (listsOk g) t (p2 .0), p5 .1),
-      )
+-- and so do 1 and 2, in a number r that code has found
+pub sizes-passed : (r : ℕ) (g : Graph) (t : Bool) → r ≡ refusal (sizeChecks g t) → r ≡ 0 → Sized g
+unfolding sizeChecks testOf numbered
+sizes-passed r g t e z = let k = every-holds (sizeChecks g t) refl (sym e ∙ z) in record { vertices = k 1; lists = and-l (listsOk g) t (k 2) }
 
-  pub accepted-refusal : Accepted g → t ≡ true → (rest : ℕ) → graphRefusal g t rest ≡ rest
-  unfolding graphRefusal
-  accepted-refusal a e rest = rw (a .vertices, a .lists, e, a .edges, a .lengths, a .connected)
+pub sizes-numbered : (g : Graph) (t : Bool) → numbered (sizeChecks g t) ≡ true
+unfolding sizeChecks numbered
+sizes-numbered g t = refl
 
-  -- one of the five refuses, whatever comes after them
-  pub refused : (k rest : ℕ) → graphRefusal g t 0 ≡ suc k → graphRefusal g t rest ≡ suc k
-  unfolding graphRefusal
-  refused k rest h = five-refused (verticesOk (g .n)) (listsOk g && t) (edgesOk g) (lengthsOk g) (connected g) k rest h
+pub graph-numbered : (g : Graph) (t : Bool) → numbered (graphChecks g t) ≡ true
+unfolding sizeChecks edgeChecks numbered
+graph-numbered g t = refl
+
+-- the number of a call whose test of its own tables has the answer t
+pub tables-answer : (r : ℕ) (g : Graph) (t u : Bool) → t ≡ u → r ≡ refusal (graphChecks g t) → r ≡ refusal (graphChecks g u)
+tables-answer r g t u e h = rw (← e) h

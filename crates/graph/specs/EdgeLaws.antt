@@ -12,7 +12,7 @@ use Rattle.arithmetic.specs.Sum.{pick, sum-ext, sum-only, sum-zeros}
 use Rattle.arithmetic.specs.Table.{at, row-below}
 use Rattle.graph.specs.Graph.{Graph, edges, joins, joined, edgeLength}
 use Rattle.graph.specs.Path.{Edge}
-use Rattle.graph.specs.Checks.{after, edgeOk, edgesOk, lengthOk, lengthsOk}
+use Rattle.graph.specs.Checks.{after, edgeFits, edgesOk, lengthFits, lengthsOk}
 
 -- which end is which
 abbrev pub Ends : Graph → ℕ → ℕ → ℕ → Type 0
@@ -88,21 +88,21 @@ module _ (g : Graph) where
 
   -- check 4
   pub edge-most : lengthsOk g ≡ true → {x y s : ℕ} → Edge g x y s → s ≤ 65535
-  unfolding lengthOk
+  unfolding lengthFits
   edge-most short d =
       omega (
         arith,
         leb-true (at (g .lengths) (d .number)) 65535
-            (and-r (ltb 0 (at (g .lengths) (d .number))) _ (all-at (edges g) (lengthOk g) short (d .number) (d .here))),
+            (and-r (ltb 0 (at (g .lengths) (d .number))) _ (all-at (edges g) (lengthFits (g .lengths)) short (d .number) (d .here))),
         d .size,
       )
 
   module _ (ok : edgesOk g ≡ true) where
     -- check 3, as an order
     pub edge-order : (e : ℕ) → e < edges g → (at (g .lower) e < at (g .upper) e) × (at (g .upper) e < g .n)
-    unfolding edgeOk
+    unfolding edgeFits
     edge-order e h =
-        let t = all-at (edges g) (edgeOk g) ok e h in
+        let t = all-at (edges g) (edgeFits (g .n) (g .lower) (g .upper)) ok e h in
         let l = and-l (ltb (at (g .upper) e) (g .n)) _ t in
         let r = and-r (ltb (at (g .upper) e) (g .n)) _ t in
         (ltb-true _ _ (and-l (ltb (at (g .lower) e) (at (g .upper) e)) _ r), ltb-true _ _ l)
@@ -112,9 +112,9 @@ module _ (g : Graph) where
     key e = at (g .lower) e * g .n + at (g .upper) e
 
     key-next : (e : ℕ) → suc e < edges g → key e < key (suc e)
-    unfolding edgeOk key
+    unfolding edgeFits key
     key-next e h =
-        let t = all-at (edges g) (edgeOk g) ok (suc e) h in
+        let t = all-at (edges g) (edgeFits (g .n) (g .lower) (g .upper)) ok (suc e) h in
         let r = and-r (ltb (at (g .upper) (suc e)) (g .n)) _ t in
         let s = and-r (ltb (at (g .lower) (suc e)) (at (g .upper) (suc e))) _ r in
         let z : suc e - 1 ≡ e = omega arith in

@@ -3,15 +3,10 @@ pub mod Path
 pub mod Distance
 pub mod SpanningTree
 pub mod Checks
-pub mod Distances
 pub mod Accepted
 pub mod EdgeLaws
 pub mod PathLaws
 pub mod ConnectedLaws
 pub mod DistanceLaws
-pub mod FloydWarshall
-pub mod FirstTree
-pub mod TreeOfRank
+pub mod EdgeTree
 pub mod Spanned
-pub mod Marks
-pub mod Records

@@ -1,10 +1,12 @@
 // Checks 1 to 4, of any numbers whatever.
 ghost use mathlib.Core.Path.{_≡_};
-ghost use mathlib.Core.List.{List};
-ghost use Prim.Native.Nat.{ℕ, _<_};
+ghost use Prim.Native.Nat.{_*_, _≤_, _<_};
+ghost use lib.Dec.{leb};
 ghost use lib.ListN.{length};
+ghost use Rattle.arithmetic.specs.Bools.{all};
+ghost use Rattle.arithmetic.specs.Refusal.{refusal};
 ghost use Rattle.graph.specs.Graph.{graph};
-ghost use Rattle.graph.specs.Checks.{verticesOk, listsOk, edgeOk, edgesOk, lengthsOk};
+ghost use Rattle.graph.specs.Checks.{verticesOk, listsFit, edgeFits, lengthFits, sizeChecks};
 
 pub fn vertices_fit(n: usize) -> bool
     ensures { λ r. ⌜ r ≡ verticesOk n ⌝ }
@@ -16,7 +18,7 @@ pub fn vertices_fit(n: usize) -> bool
 }
 
 pub fn lists_fit(a: &[u32], b: &[u32], lengths: &[u32]) -> bool
-    ensures { λ r. ⌜ ((n : ℕ) → r ≡ listsOk (graph n (now (a .entry)) (now (b .entry)) (now (lengths .entry)))) ⌝ }
+    ensures { λ r. ⌜ r ≡ listsFit (now (a .entry)) (now (b .entry)) (now (lengths .entry)) ⌝ }
 {
     if a.len() > 512 {
         return false;
@@ -30,7 +32,7 @@ pub fn lists_fit(a: &[u32], b: &[u32], lengths: &[u32]) -> bool
 // Edge e has ends below n, the lower one first, and stands after its forerunner.
 fn edge_fits(n: usize, a: &[u32], b: &[u32], e: usize) -> bool
     requires { ⌜ (length (now b) ≡ length (now a)) × (e < length (now a)) ⌝ }
-    ensures { λ r. ⌜ ((l : List ℕ) → r ≡ edgeOk (graph n (now (a .entry)) (now (b .entry)) l) e) ⌝ }
+    ensures { λ r. ⌜ r ≡ edgeFits n (now (a .entry)) (now (b .entry)) e ⌝ }
 {
     let x = a[e];
     let y = b[e];
@@ -52,7 +54,7 @@ fn edge_fits(n: usize, a: &[u32], b: &[u32], e: usize) -> bool
 
 pub fn edges_fit(n: usize, a: &[u32], b: &[u32]) -> bool
     requires { ⌜ length (now b) ≡ length (now a) ⌝ }
-    ensures { λ r. ⌜ ((l : List ℕ) → r ≡ edgesOk (graph n (now (a .entry)) (now (b .entry)) l)) ⌝ }
+    ensures { λ r. ⌜ r ≡ all (length (now (a .entry))) (edgeFits n (now (a .entry)) (now (b .entry))) ⌝ }
 {
     let mut e = 0;
     while e < a.len() {
@@ -64,12 +66,13 @@ pub fn edges_fit(n: usize, a: &[u32], b: &[u32]) -> bool
     true
 }
 
-// Of any graph with these lengths: each is from 1 to 65,535.
-pub fn lengths_fit(lengths: &[u32]) -> bool
-    ensures { λ r. ⌜ ((n : ℕ) (a b : List ℕ) → length (now (lengths .entry)) ≡ length a → r ≡ lengthsOk (graph n a b (now (lengths .entry)))) ⌝ }
+// Each of the first m lengths is from 1 to 65,535.
+pub fn lengths_fit(m: usize, lengths: &[u32]) -> bool
+    requires { ⌜ m ≤ length (now lengths) ⌝ }
+    ensures { λ r. ⌜ r ≡ all m (lengthFits (now (lengths .entry))) ⌝ }
 {
     let mut e = 0;
-    while e < lengths.len() {
+    while e < m {
         let s = lengths[e];
         if s == 0 {
             return false;
@@ -80,4 +83,30 @@ pub fn lengths_fit(lengths: &[u32]) -> bool
         e += 1;
     }
     true
+}
+
+// Whether n rows of n numbers fit into so many places.
+pub fn square_fits(n: usize, places: usize) -> bool
+    ensures { λ r. ⌜ r ≡ leb (n * n) places ⌝ }
+{
+    if n >= 1 << 32 {
+        return false;
+    }
+    n * n <= places
+}
+
+// Checks 1 and 2; `tables` says whether the caller's own tables pass check 2.
+pub fn sizes_refusal(n: usize, a: &[u32], b: &[u32], lengths: &[u32], tables: bool) -> u32
+    ensures { λ r. ⌜ r ≡ refusal (sizeChecks (graph n (now (a .entry)) (now (b .entry)) (now (lengths .entry))) tables) ⌝ }
+{
+    if !vertices_fit(n) {
+        return 1;
+    }
+    if !lists_fit(a, b, lengths) {
+        return 2;
+    }
+    if !tables {
+        return 2;
+    }
+    0
 }

@@ -8,7 +8,7 @@ use lib.ListN.{drop}
 use borrow.Author.Tests.{eq-eqb, ne-eqb}
 use Rattle.arithmetic.specs.Sum.{pick}
 use Rattle.arithmetic.specs.Table.{at, tab, written, tab-ext, length-tab}
-use Rattle.image.specs.Image.{two, four, vertexCount, edgeCount, offset, extent, hasTree, lowerEnd, upperEnd, edgeLengthOf, amountBefore, amountAfter, rootOf, parentOf}
+use Rattle.image.specs.Image.{two, four, vertexCount, edgeCount, offset, extent, treeSection, hasTree, lowerEnd, upperEnd, edgeLengthOf, amount, rootOf, parentOf}
 
 -- a loop's table of c numbers f is the answer's table of m numbers g
 listed : (c m : ℕ) (f g : ℕ → ℕ) (l out : List ℕ) → c ≡ m → ((e : ℕ) → f e ≡ g e) → out ≡ tab c f ++ drop c l
@@ -30,35 +30,30 @@ module _ (s : List ℕ) where
         listed m _ _ (edgeLengthOf s) l out em
         (λ e. let z : x + 2 + 4 * e ≡ offset s 0 + 4 * e + 2 = omega arith in ap (λ (k : ℕ). two s k) z)
 
-  module _ (n x : ℕ) (en : n ≡ vertexCount s) (l out : List ℕ) where
-    pub mu-filled : x ≡ offset s 1 → out ≡ tab n (λ e. four s (x + 4 * e)) ++ drop n l
-        → out ≡ written 0 (tab (vertexCount s) (amountBefore s)) l
-    mu-filled ex = listed n _ _ (amountBefore s) l out en (λ e. ap (λ (k : ℕ). four s (k + 4 * e)) ex)
-
-    pub nu-filled : x ≡ offset s 2 → out ≡ tab n (λ e. four s (x + 4 * e)) ++ drop n l
-        → out ≡ written 0 (tab (vertexCount s) (amountAfter s)) l
-    nu-filled ex = listed n _ _ (amountAfter s) l out en (λ e. ap (λ (k : ℕ). four s (k + 4 * e)) ex)
+  pub amounts-filled : (n x t : ℕ) → n ≡ vertexCount s → x ≡ offset s (t + 1) → (l out : List ℕ)
+      → out ≡ tab n (λ e. four s (x + 4 * e)) ++ drop n l → out ≡ written 0 (tab (vertexCount s) (amount s t)) l
+  amounts-filled n x t en ex l out = listed n _ _ (amount s t) l out en (λ e. ap (λ (k : ℕ). four s (k + 4 * e)) ex)
 
   -- the tree: y is its length
-  module _ (y : ℕ) (ey : y ≡ extent s 3) where
+  module _ (y : ℕ) (ey : y ≡ extent s (treeSection s)) where
     has : (y ≡ 0 → ⊥) → hasTree s ≡ true
-    has h = rw (ne-eqb (extent s 3) 0 (λ z. h (ey ∙ z)))
+    has h = rw (ne-eqb (extent s (treeSection s)) 0 (λ z. h (ey ∙ z)))
 
     has-not : y ≡ 0 → hasTree s ≡ false
-    has-not h = rw (eq-eqb (extent s 3) 0 (sym ey ∙ h))
+    has-not h = rw (eq-eqb (extent s (treeSection s)) 0 (sym ey ∙ h))
 
-    pub parents-filled : (y ≡ 0 → ⊥) → (n x : ℕ) → n ≡ vertexCount s → x ≡ offset s 3 → (l out : List ℕ)
+    pub parents-filled : (y ≡ 0 → ⊥) → (n x : ℕ) → n ≡ vertexCount s → x ≡ offset s (treeSection s) → (l out : List ℕ)
         → out ≡ tab n (λ e. at s (x + 1 + 1 * e)) ++ drop n l
         → out ≡ written 0 (cond (hasTree s) (tab (vertexCount s) (parentOf s)) []) l
     parents-filled h n x en ex l out k =
         rw (has h)
-        (listed n _ _ (parentOf s) l out en (λ e. let z : x + 1 + 1 * e ≡ offset s 3 + 1 + e = omega arith in ap (λ (k : ℕ). at s k) z) k)
+        (listed n _ _ (parentOf s) l out en (λ e. let z : x + 1 + 1 * e ≡ offset s (treeSection s) + 1 + e = omega arith in ap (λ (k : ℕ). at s k) z) k)
 
     pub parents-kept : y ≡ 0 → (l : List ℕ) → l ≡ written 0 (cond (hasTree s) (tab (vertexCount s) (parentOf s)) []) l
     parents-kept h l = rw (has-not h)
 
     -- what is returned of the tree
-    pub root-read : (y ≡ 0 → ⊥) → (v x : ℕ) → v ≡ at s x → x ≡ offset s 3 → v ≡ pick (hasTree s) (rootOf s)
+    pub root-read : (y ≡ 0 → ⊥) → (v x : ℕ) → v ≡ at s x → x ≡ offset s (treeSection s) → v ≡ pick (hasTree s) (rootOf s)
     root-read h v x e ex = rw (has h) (e ∙ ap (λ (k : ℕ). at s k) ex)
 
     pub tree-marked : (y ≡ 0 → ⊥) → 1 ≡ pick (hasTree s) 1

@@ -1,2 +1,3 @@
-pub mod Cases
+pub mod Tests
 pub mod Fills
+pub mod Cases

@@ -8,11 +8,11 @@ use Rattle.arithmetic.specs.Bools.{all}
 use Rattle.arithmetic.specs.Table.{at}
 
 -- "numbers in bytes are little-endian": two bytes and four bytes from place k
-abbrev pub two : List ℕ → ℕ → ℕ
+unfoldable pub two : List ℕ → ℕ → ℕ
 two s k = at s k + 256 * at s (k + 1)
 
 abbrev pub four : List ℕ → ℕ → ℕ
-four s k = at s k + 256 * at s (k + 1) + 65536 * at s (k + 2) + 16777216 * at s (k + 3)
+four s k = two s k + 65536 * two s (k + 2)
 
 -- "byte 0 is n, byte 1 is 0, bytes 2–3 are m"
 abbrev pub vertexCount : List ℕ → ℕ
@@ -21,36 +21,48 @@ vertexCount s = at s 0
 abbrev pub edgeCount : List ℕ → ℕ
 edgeCount s = two s 2
 
--- "Four pairs of 32-bit offset and length": section t is the edges (0), mu (1), nu (2) or the tree (3)
+-- "Four pairs of 32-bit offset and length": how many sections there are, and where the first may start
+abbrev pub sectionCount : List ℕ → ℕ
+sectionCount s = 4
+
+abbrev pub firstOffset : List ℕ → ℕ
+firstOffset s = 36
+
+-- section 0 is the edges, 1 is mu, 2 is nu, and the last one is the tree
+abbrev pub treeSection : List ℕ → ℕ
+treeSection s = 3
+
 abbrev pub offset : List ℕ → ℕ → ℕ
 offset s t = four s (4 + 8 * t)
 
 abbrev pub extent : List ℕ → ℕ → ℕ
 extent s t = four s (8 + 8 * t)
 
+abbrev pub end : List ℕ → ℕ → ℕ
+end s t = offset s t + extent s t
+
 -- 11: "image under 36 or over 65,536 bytes"
 unfoldable pub sizeOk : List ℕ → Bool
-sizeOk s = leb 36 (length s) && leb (length s) 65536
+sizeOk s = leb (firstOffset s) (length s) && leb (length s) 65536
 
 -- 12: "a section starts before 36 or before its forerunner's end, or ends past the image"
 unfoldable pub sectionOk : List ℕ → ℕ → Bool
 sectionOk s t =
-    leb 36 (offset s t) && ((eqb t 0 || leb (offset s (t - 1) + extent s (t - 1)) (offset s t))
-    && leb (offset s t + extent s t) (length s))
+    leb (firstOffset s) (offset s t) && ((eqb t 0 || leb (end s (t - 1)) (offset s t)) && leb (end s t) (length s))
 
 abbrev pub sectionsOk : List ℕ → Bool
-sectionsOk s = all 4 (sectionOk s)
+sectionsOk s = all (sectionCount s) (sectionOk s)
 
 -- "tree (empty, or root and n parents, one byte each)"
 abbrev pub hasTree : List ℕ → Bool
-hasTree s = not (eqb (extent s 3) 0)
+hasTree s = not (eqb (extent s (treeSection s)) 0)
 
 -- 13: "byte 1 isn't 0, or a section length doesn't fit": "m entries: a, b one byte each, length two", "n amounts, four bytes each"
 unfoldable pub layoutOk : List ℕ → Bool
 layoutOk s =
     eqb (at s 1) 0 && (eqb (extent s 0) (4 * edgeCount s)
     && (eqb (extent s 1) (4 * vertexCount s) && (eqb (extent s 2) (4 * vertexCount s)
-    && (eqb (extent s 3) 0 || eqb (extent s 3) (vertexCount s + 1)))))
+    && (eqb (extent s (treeSection s)) 0 || eqb (extent s (treeSection s)) (vertexCount s + 1)))))
 
 -- what the sections hold: the ends and the length of edge e,
 abbrev pub lowerEnd : List ℕ → ℕ → ℕ
@@ -62,16 +74,13 @@ upperEnd s e = at s (offset s 0 + 4 * e + 1)
 abbrev pub edgeLengthOf : List ℕ → ℕ → ℕ
 edgeLengthOf s e = two s (offset s 0 + 4 * e + 2)
 
--- the amounts of vertex x before and after,
-abbrev pub amountBefore : List ℕ → ℕ → ℕ
-amountBefore s x = four s (offset s 1 + 4 * x)
-
-abbrev pub amountAfter : List ℕ → ℕ → ℕ
-amountAfter s x = four s (offset s 2 + 4 * x)
+-- the amount of vertex x in painting t, before (0) or after (1),
+abbrev pub amount : List ℕ → ℕ → ℕ → ℕ
+amount s t x = four s (offset s (t + 1) + 4 * x)
 
 -- the root and the parent of vertex x
 abbrev pub rootOf : List ℕ → ℕ
-rootOf s = at s (offset s 3)
+rootOf s = at s (offset s (treeSection s))
 
 abbrev pub parentOf : List ℕ → ℕ → ℕ
-parentOf s x = at s (offset s 3 + 1 + x)
+parentOf s x = at s (offset s (treeSection s) + 1 + x)

@@ -2,17 +2,20 @@
 use Prim.Native.Nat.{ℕ}
 use mathlib.Core.Path.{_≡_}
 use mathlib.Core.Bool.{Bool, cond, _&&_}
-use mathlib.Core.List.{List, []}
+use mathlib.Core.List.{List, [], _∷_}
 use lib.ListN.{length}
 use lib.Dec.{leb}
 use Rattle.arithmetic.specs.Sum.{pick}
 use Rattle.arithmetic.specs.Table.{tab, result, written}
-use Rattle.graph.specs.Checks.{verticesOk, check}
-use Rattle.image.specs.Image.{sizeOk, sectionsOk, layoutOk, hasTree, vertexCount, edgeCount, lowerEnd, upperEnd, edgeLengthOf, amountBefore, amountAfter, rootOf, parentOf}
+use Rattle.arithmetic.specs.Refusal.{Check, check, refusal}
+use Rattle.graph.specs.Checks.{verticesOk}
+use Rattle.image.specs.Image.{sizeOk, sectionsOk, layoutOk, hasTree, vertexCount, edgeCount, lowerEnd, upperEnd, edgeLengthOf, amount, rootOf, parentOf}
 
--- "an image passes 11, 12, 13 first", and then `rest`
-abbrev pub imageRefusal : List ℕ → ℕ → ℕ
-imageRefusal s rest = check 11 (sizeOk s) (check 12 (sectionsOk s) (check 13 (layoutOk s) rest))
+-- "an image passes 11, 12, 13 first"; `room` is what a call adds to 2
+unfoldable pub imageChecks : List ℕ → Bool → List Check
+imageChecks s room =
+    check 11 (sizeOk s) ∷ check 12 (sectionsOk s) ∷ check 13 (layoutOk s)
+    ∷ check 1 (verticesOk (vertexCount s)) ∷ check 2 (leb (edgeCount s) 512 && room) ∷ []
 
 -- the tables that the reader fills
 pub record Lists : Type 0 where
@@ -26,16 +29,20 @@ pub record Lists : Type 0 where
 abbrev pub lists : List ℕ → List ℕ → List ℕ → List ℕ → List ℕ → List ℕ → Lists
 lists a b l mu nu ps = record { lower = a; upper = b; lengths = l; mu = mu; nu = nu; parents = ps }
 
+-- tables of lengths x, y and z have room for n numbers each
+abbrev pub roomIn : ℕ → ℕ → ℕ → ℕ → Bool
+roomIn n x y z = leb n x && (leb n y && leb n z)
+
 -- "The reader's lists are all answer tables: they may be longer and of unequal length, and the one for parents must hold n even without
 -- a tree"
 unfoldable pub roomOk : List ℕ → Lists → Bool
 roomOk s t =
-    leb (edgeCount s) (length (t .lower)) && (leb (edgeCount s) (length (t .upper)) && (leb (edgeCount s) (length (t .lengths))
-    && (leb (vertexCount s) (length (t .mu)) && (leb (vertexCount s) (length (t .nu)) && leb (vertexCount s) (length (t .parents))))))
+    roomIn (edgeCount s) (length (t .lower)) (length (t .upper)) (length (t .lengths))
+    && roomIn (vertexCount s) (length (t .mu)) (length (t .nu)) (length (t .parents))
 
 -- "The image reader stops after 2"
-unfoldable pub readRefusal : List ℕ → Lists → ℕ
-readRefusal s t = imageRefusal s (check 1 (verticesOk (vertexCount s)) (check 2 (leb (edgeCount s) 512 && roomOk s t) 0))
+abbrev pub readRefusal : List ℕ → Lists → ℕ
+readRefusal s t = refusal (imageChecks s (roomOk s t))
 
 -- "it fills edge lists, paintings and parents and returns n, m, root and 1 for a tree. Without a tree the root is 0, that mark is 0, and
 -- the parents stay as lent": the refusal number k, what is returned, and the tables as they come back
@@ -48,6 +55,6 @@ pub record Read (s : List ℕ) (t : Lists) (k n m root tree : ℕ) (t' : Lists) 
   pub lower-is : t' .lower ≡ written k (tab (edgeCount s) (lowerEnd s)) (t .lower)
   pub upper-is : t' .upper ≡ written k (tab (edgeCount s) (upperEnd s)) (t .upper)
   pub lengths-are : t' .lengths ≡ written k (tab (edgeCount s) (edgeLengthOf s)) (t .lengths)
-  pub mu-is : t' .mu ≡ written k (tab (vertexCount s) (amountBefore s)) (t .mu)
-  pub nu-is : t' .nu ≡ written k (tab (vertexCount s) (amountAfter s)) (t .nu)
+  pub mu-is : t' .mu ≡ written k (tab (vertexCount s) (amount s 0)) (t .mu)
+  pub nu-is : t' .nu ≡ written k (tab (vertexCount s) (amount s 1)) (t .nu)
   pub parents-are : t' .parents ≡ written k (cond (hasTree s) (tab (vertexCount s) (parentOf s)) []) (t .parents)

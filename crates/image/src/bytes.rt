@@ -26,7 +26,9 @@ pub fn get_two(image: &[u8], k: usize) -> u32
     requires { ⌜ k + 2 ≤ length (now image) ⌝ }
     ensures { λ r. ⌜ (r ≡ two (now (image .entry)) k) × (r < 65536) ⌝ }
 {
-    get(image, k) + 256 * get(image, k + 1)
+    let low = get(image, k);
+    let high = get(image, k + 1);
+    low + 256 * high
 }
 
 // The number in four bytes from place k.
@@ -34,10 +36,7 @@ pub fn get_four(image: &[u8], k: usize) -> u32
     requires { ⌜ k + 4 ≤ length (now image) ⌝ }
     ensures { λ r. ⌜ r ≡ four (now (image .entry)) k ⌝ }
 {
-    get(image, k)
-        + 256 * get(image, k + 1)
-        + 65536 * get(image, k + 2)
-        + 16777216 * get(image, k + 3)
+    get_two(image, k) + 65536 * get_two(image, k + 2)
 }
 
 // Bytes from place `from` on, one in every `step`.

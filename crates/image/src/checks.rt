@@ -1,19 +1,30 @@
 // The reader's checks, 11, 12, 13, 1 and 2, and the header's fields.
 ghost use mathlib.Core.Path.{_≡_};
-ghost use mathlib.Core.Bool.{_&&_};
-ghost use Prim.Native.Nat.{_≤_, _<_};
+ghost use mathlib.Core.Bool.{_&&_, _||_};
+ghost use Prim.Native.Nat.{_-_, _≤_, _<_};
 ghost use lib.ListN.{length};
-ghost use lib.Dec.{leb};
-ghost use Rattle.image.specs.Image.{vertexCount, edgeCount, sizeOk, sectionOk, sectionsOk, layoutOk};
-ghost use Rattle.image.specs.Image.{offset as offsetOf, extent as extentOf};
-ghost use Rattle.image.specs.Read.{imageRefusal, readRefusal, lists};
+ghost use lib.Dec.{eqb, leb};
+ghost use Rattle.graph.specs.Checks.{verticesOk};
+ghost use Rattle.image.specs.Image.{vertexCount, edgeCount, firstOffset, sectionCount, sizeOk, sectionOk, sectionsOk, layoutOk};
+ghost use Rattle.image.specs.Image.{offset as offsetOf, extent as extentOf, end as endOf};
+ghost use Rattle.image.specs.Read.{readRefusal, roomIn, roomOk, lists};
 use super::bytes::get;
 use super::bytes::get_four;
 use super::bytes::get_two;
+use graph::edges::vertices_fit;
+
+// How many sections an image has.
+const SECTIONS: usize = 4;
+
+// Where the first of them may start.
+const FIRST_OFFSET: usize = 36;
+
+// Which of them is the tree.
+pub const TREE: usize = 3;
 
 // The number of vertices.
 pub fn vertex_count(image: &[u8]) -> usize
-    requires { ⌜ 36 ≤ length (now image) ⌝ }
+    requires { ⌜ firstOffset (now image) ≤ length (now image) ⌝ }
     ensures { λ r. ⌜ (r ≡ vertexCount (now (image .entry))) × (r < 256) ⌝ }
 {
     get(image, 0) as usize
@@ -21,7 +32,7 @@ pub fn vertex_count(image: &[u8]) -> usize
 
 // The number of edges.
 pub fn edge_count(image: &[u8]) -> usize
-    requires { ⌜ 36 ≤ length (now image) ⌝ }
+    requires { ⌜ firstOffset (now image) ≤ length (now image) ⌝ }
     ensures { λ r. ⌜ (r ≡ edgeCount (now (image .entry))) × (r < 65536) ⌝ }
 {
     get_two(image, 2) as usize
@@ -29,7 +40,7 @@ pub fn edge_count(image: &[u8]) -> usize
 
 // Where section t starts.
 pub fn offset(image: &[u8], t: usize) -> usize
-    requires { ⌜ (36 ≤ length (now image)) × (t < 4) ⌝ }
+    requires { ⌜ (firstOffset (now image) ≤ length (now image)) × (t < sectionCount (now image)) ⌝ }
     ensures { λ r. ⌜ (r ≡ offsetOf (now (image .entry)) t) × (r < 4294967296) ⌝ }
 {
     get_four(image, 4 + 8 * t) as usize
@@ -37,43 +48,58 @@ pub fn offset(image: &[u8], t: usize) -> usize
 
 // How many bytes section t has.
 pub fn extent(image: &[u8], t: usize) -> usize
-    requires { ⌜ (36 ≤ length (now image)) × (t < 4) ⌝ }
+    requires { ⌜ (firstOffset (now image) ≤ length (now image)) × (t < sectionCount (now image)) ⌝ }
     ensures { λ r. ⌜ (r ≡ extentOf (now (image .entry)) t) × (r < 4294967296) ⌝ }
 {
     get_four(image, 8 + 8 * t) as usize
+}
+
+// Where section t ends.
+fn end(image: &[u8], t: usize) -> usize
+    requires { ⌜ (firstOffset (now image) ≤ length (now image)) × (t < sectionCount (now image)) ⌝ }
+    ensures { λ r. ⌜ r ≡ endOf (now (image .entry)) t ⌝ }
+{
+    offset(image, t) + extent(image, t)
 }
 
 // Check 11.
 fn size_ok(image: &[u8]) -> bool
     ensures { λ r. ⌜ r ≡ sizeOk (now (image .entry)) ⌝ }
 {
-    36 <= image.len() && image.len() <= 65536
+    FIRST_OFFSET <= image.len() && image.len() <= 65536
+}
+
+// Section t does not start before its forerunner's end.
+fn follows(image: &[u8], t: usize) -> bool
+    requires { ⌜ (firstOffset (now image) ≤ length (now image)) × (t < sectionCount (now image)) ⌝ }
+    ensures { λ r. ⌜ r ≡ eqb t 0 || leb (endOf (now (image .entry)) (t - 1)) (offsetOf (now (image .entry)) t) ⌝ }
+{
+    if t == 0 {
+        return true;
+    }
+    end(image, t - 1) <= offset(image, t)
 }
 
 // Check 12 of section t.
 fn section_ok(image: &[u8], t: usize) -> bool
-    requires { ⌜ (36 ≤ length (now image)) × (t < 4) ⌝ }
+    requires { ⌜ (firstOffset (now image) ≤ length (now image)) × (t < sectionCount (now image)) ⌝ }
     ensures { λ r. ⌜ r ≡ sectionOk (now (image .entry)) t ⌝ }
 {
-    let start = offset(image, t);
-    if start < 36 {
+    if offset(image, t) < FIRST_OFFSET {
         return false;
     }
-    if start + extent(image, t) > image.len() {
+    if !follows(image, t) {
         return false;
     }
-    if t == 0 {
-        return true;
-    }
-    offset(image, t - 1) + extent(image, t - 1) <= start
+    end(image, t) <= image.len()
 }
 
 // Check 12.
 fn sections_ok(image: &[u8]) -> bool
-    requires { ⌜ 36 ≤ length (now image) ⌝ }
+    requires { ⌜ firstOffset (now image) ≤ length (now image) ⌝ }
     ensures { λ r. ⌜ r ≡ sectionsOk (now (image .entry)) ⌝ }
 {
-    for t in 0..4 {
+    for t in 0..SECTIONS {
         if !section_ok(image, t) {
             return false;
         }
@@ -83,7 +109,7 @@ fn sections_ok(image: &[u8]) -> bool
 
 // Check 13.
 fn layout_ok(image: &[u8]) -> bool
-    requires { ⌜ 36 ≤ length (now image) ⌝ }
+    requires { ⌜ firstOffset (now image) ≤ length (now image) ⌝ }
     ensures { λ r. ⌜ r ≡ layoutOk (now (image .entry)) ⌝ }
 {
     let n = vertex_count(image);
@@ -99,29 +125,24 @@ fn layout_ok(image: &[u8]) -> bool
     if extent(image, 2) != 4 * n {
         return false;
     }
-    let tree = extent(image, 3);
-    tree == 0 || tree == n + 1
+    let tree = extent(image, TREE);
+    if tree == 0 {
+        return true;
+    }
+    tree == n + 1
 }
 
-// The number of the first of checks 11, 12 and 13 that fails, or 0.
-pub fn image_refusal(image: &[u8]) -> u32
-    ensures { λ r. ⌜ r ≡ imageRefusal (now (image .entry)) 0 ⌝ }
+// Check 1.
+fn vertices_ok(image: &[u8]) -> bool
+    requires { ⌜ firstOffset (now image) ≤ length (now image) ⌝ }
+    ensures { λ r. ⌜ r ≡ verticesOk (vertexCount (now (image .entry))) ⌝ }
 {
-    if !size_ok(image) {
-        return 11;
-    }
-    if !sections_ok(image) {
-        return 12;
-    }
-    if !layout_ok(image) {
-        return 13;
-    }
-    0
+    vertices_fit(vertex_count(image))
 }
 
-// Three tables of these lengths have room for n numbers each.
+// Tables of these three lengths have room for n numbers each.
 fn room(n: usize, x: usize, y: usize, z: usize) -> bool
-    ensures { λ r. ⌜ r ≡ leb n x && (leb n y && leb n z) ⌝ }
+    ensures { λ r. ⌜ r ≡ roomIn n x y z ⌝ }
 {
     if n > x {
         return false;
@@ -130,6 +151,30 @@ fn room(n: usize, x: usize, y: usize, z: usize) -> bool
         return false;
     }
     n <= z
+}
+
+// Check 2: few enough edges, and room for all that is read.
+fn tables_ok(
+    image: &[u8],
+    a: &[u32],
+    b: &[u32],
+    lengths: &[u32],
+    mu: &[u64],
+    nu: &[u64],
+    parents: &[u32],
+) -> bool
+    requires { ⌜ firstOffset (now image) ≤ length (now image) ⌝ }
+    ensures { λ r. ⌜ r ≡ leb (edgeCount (now (image .entry))) 512 && roomOk (now (image .entry)) (lists (now (a .entry)) (now (b .entry))
+        (now (lengths .entry)) (now (mu .entry)) (now (nu .entry)) (now (parents .entry))) ⌝ }
+{
+    let m = edge_count(image);
+    if m > 512 {
+        return false;
+    }
+    if !room(m, a.len(), b.len(), lengths.len()) {
+        return false;
+    }
+    room(vertex_count(image), mu.len(), nu.len(), parents.len())
 }
 
 // The number of the first of checks 11, 12, 13, 1 and 2 that fails, or 0.
@@ -145,25 +190,19 @@ pub fn read_refusal(
     ensures { λ r. ⌜ r ≡ readRefusal (now (image .entry)) (lists (now (a .entry)) (now (b .entry)) (now (lengths .entry))
         (now (mu .entry)) (now (nu .entry)) (now (parents .entry))) ⌝ }
 {
-    let refusal = image_refusal(image);
-    if refusal != 0 {
-        return refusal;
+    if !size_ok(image) {
+        return 11;
     }
-    let n = vertex_count(image);
-    if n == 0 {
+    if !sections_ok(image) {
+        return 12;
+    }
+    if !layout_ok(image) {
+        return 13;
+    }
+    if !vertices_ok(image) {
         return 1;
     }
-    if n > 64 {
-        return 1;
-    }
-    let m = edge_count(image);
-    if m > 512 {
-        return 2;
-    }
-    if !room(m, a.len(), b.len(), lengths.len()) {
-        return 2;
-    }
-    if !room(n, mu.len(), nu.len(), parents.len()) {
+    if !tables_ok(image, a, b, lengths, mu, nu, parents) {
         return 2;
     }
     0

@@ -48,7 +48,8 @@ pub fn read(
         };
     }
     fill_edges(image, a, b, lengths);
-    fill_amounts(image, mu, nu);
+    fill_amounts(image, 0, mu);
+    fill_amounts(image, 1, nu);
     fill_parents(image, parents);
     Reading {
         refusal: 0,

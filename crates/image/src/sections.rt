@@ -2,16 +2,17 @@
 ghost use mathlib.Core.Path.{_≡_};
 ghost use mathlib.Core.Bool.{cond};
 ghost use mathlib.Core.List.{[]};
-ghost use Prim.Native.Nat.{_≤_};
+ghost use Prim.Native.Nat.{_+_, _*_, _≤_, _<_};
 ghost use lib.ListN.{length};
 ghost use Rattle.arithmetic.specs.Sum.{pick};
 ghost use Rattle.arithmetic.specs.Table.{tab, written};
-ghost use Rattle.image.specs.Image.{vertexCount, edgeCount, lowerEnd, upperEnd, edgeLengthOf, amountBefore, amountAfter, hasTree, rootOf, parentOf};
+ghost use Rattle.image.specs.Image.{vertexCount, edgeCount, firstOffset, sectionCount, offset as offsetOf, lowerEnd, upperEnd, edgeLengthOf, amount, hasTree, rootOf, parentOf};
 ghost use Rattle.image.specs.Bytes.{Held};
 use super::bytes::fill_bytes;
 use super::bytes::fill_fours;
 use super::bytes::fill_twos;
 use super::bytes::get;
+use super::checks::TREE;
 use super::checks::edge_count;
 use super::checks::extent;
 use super::checks::offset;
@@ -34,18 +35,14 @@ pub fn fill_edges(image: &[u8], a: &mut [u32], b: &mut [u32], lengths: &mut [u32
     fill_twos(image, from + 2, m, lengths);
 }
 
-// The paintings.
-pub fn fill_amounts(image: &[u8], mu: &mut [u64], nu: &mut [u64])
-    requires { ⌜ Held (now image) ⌝ }
-    requires { ⌜ (vertexCount (now image) ≤ length (now mu)) × (vertexCount (now image) ≤ length (now nu)) ⌝ }
-    ensures { λ _. ⌜ now (mu .exit)
-        ≡ written 0 (tab (vertexCount (now (image .entry))) (amountBefore (now (image .entry)))) (now (mu .entry)) ⌝ }
-    ensures { λ _. ⌜ now (nu .exit)
-        ≡ written 0 (tab (vertexCount (now (image .entry))) (amountAfter (now (image .entry)))) (now (nu .entry)) ⌝ }
+// The amounts of painting t.
+pub fn fill_amounts(image: &[u8], t: usize, out: &mut [u64])
+    requires { ⌜ (firstOffset (now image) ≤ length (now image)) × (t + 1 < sectionCount (now image)) ⌝ }
+    requires { ⌜ (offsetOf (now image) (t + 1) + 4 * vertexCount (now image) ≤ length (now image)) × (vertexCount (now image) ≤ length (now out)) ⌝ }
+    ensures { λ _. ⌜ now (out .exit)
+        ≡ written 0 (tab (vertexCount (now (image .entry))) (amount (now (image .entry)) t)) (now (out .entry)) ⌝ }
 {
-    let n = vertex_count(image);
-    fill_fours(image, offset(image, 1), n, mu);
-    fill_fours(image, offset(image, 2), n, nu);
+    fill_fours(image, offset(image, t + 1), vertex_count(image), out);
 }
 
 // The tree's parents, or nothing without a tree.
@@ -56,8 +53,14 @@ pub fn fill_parents(image: &[u8], parents: &mut [u32])
         (cond (hasTree (now (image .entry))) (tab (vertexCount (now (image .entry))) (parentOf (now (image .entry)))) [])
         (now (parents .entry)) ⌝ }
 {
-    if extent(image, 3) != 0 {
-        fill_bytes(image, offset(image, 3) + 1, 1, vertex_count(image), parents);
+    if extent(image, TREE) != 0 {
+        fill_bytes(
+            image,
+            offset(image, TREE) + 1,
+            1,
+            vertex_count(image),
+            parents,
+        );
     }
 }
 
@@ -66,16 +69,16 @@ pub fn root(image: &[u8]) -> usize
     requires { ⌜ Held (now image) ⌝ }
     ensures { λ r. ⌜ r ≡ pick (hasTree (now (image .entry))) (rootOf (now (image .entry))) ⌝ }
 {
-    if extent(image, 3) == 0 {
+    if extent(image, TREE) == 0 {
         return 0;
     }
-    get(image, offset(image, 3)) as usize
+    get(image, offset(image, TREE)) as usize
 }
 
 // 1 for a tree, else 0.
 pub fn tree_mark(image: &[u8]) -> u32
-    requires { ⌜ 36 ≤ length (now image) ⌝ }
+    requires { ⌜ firstOffset (now image) ≤ length (now image) ⌝ }
     ensures { λ r. ⌜ r ≡ pick (hasTree (now (image .entry))) 1 ⌝ }
 {
-    if extent(image, 3) == 0 { 0 } else { 1 }
+    if extent(image, TREE) == 0 { 0 } else { 1 }
 }

@@ -11,8 +11,10 @@ use lib.ListN.{length, length-append}
 use borrow.Author.Tests.{eq-eqb, ne-eqb, le-leb, lt-leb}
 use Rattle.arithmetic.specs.Bools.{case, case≤}
 use Rattle.arithmetic.specs.Table.{cell, written, rows-at, cell-below}
-use Rattle.graph.specs.Checks.{verticesOk, graphRefusal}
+use Rattle.arithmetic.specs.Refusal.{refusal}
+use Rattle.graph.specs.Checks.{verticesOk}
 use Rattle.image.specs.Image.{hasTree, vertexCount, rootOf, parentOf}
+use Rattle.image.specs.Read.{imageChecks}
 use Rattle.host_record.specs.Record.{recordSize}
 use Rattle.weight_mover.specs.Run.{answerRefusal, imagePlan}
 use Rattle.weight_mover.specs.Answer.{Answered}
@@ -24,7 +26,7 @@ use Rattle.listing.specs.ListingLaws.{plan-ext}
 
 -- 1 is refused before 2
 fits-anyway : (s : List ℕ) → answerRefusal s (leb (recordSize (vertexCount s)) 16717) ≡ answerRefusal s true
-unfolding answerRefusal graphRefusal verticesOk
+unfolding answerRefusal imageChecks refusal verticesOk
 fits-anyway s =
     case≤ (vertexCount s) 64
     (λ l. rw (le-leb (recordSize (vertexCount s)) 16717 (omega (arith, mul-le-mul l l))))

@@ -15,7 +15,7 @@ use Rattle.rooted_tree.specs.Subtotal.{subtotal}
 use Rattle.graph.specs.Graph.{Graph, graph, edgeLength}
 use Rattle.graph.specs.Accepted.{Accepted, vertices-in, lists-in}
 use Rattle.graph.specs.EdgeLaws.{edge-length, joined-sym, edgeLength-sym, edgeLength-most}
-use Rattle.graph.specs.FirstTree.{FirstTree}
+use Rattle.graph.specs.EdgeTree.{EdgeTree}
 use Rattle.tree_checks.specs.TreeTests.{spanning-rooted}
 use Rattle.tree_walks.specs.Walk.{Filled}
 use Rattle.tree_pivot.specs.Basis.{Network, Basis}
@@ -105,7 +105,7 @@ filled-subtotal {n} p w u = record {
 -- a graph that passed the checks, with a spanning tree, and two measures of equal totals
 pub record CanStart (g : Graph) (mu nu parents edge : List ℕ) : Type 0 where
   pub accepted : Accepted g
-  pub tree : FirstTree g parents edge
+  pub tree : EdgeTree g 0 parents edge
   pub same : sum (g .n) (at mu) ≡ sum (g .n) (at nu)
   pub light : sum (g .n) (at mu) ≤ 2 ^ 24
   pub mu-size : length mu ≡ g .n

@@ -22,7 +22,7 @@ use Rattle.tree_walks.specs.Walk.{Filled}
 use Rattle.spanning_tree.specs.TreeValue.{parentsHeld, held-at}
 use Rattle.duality.specs.Agree.{certificate-same}
 use Rattle.duality.specs.BestLaws.{Certificate, certificate-of-flow}
-use Rattle.tree_pivot.specs.Basis.{Network, Basis, offset}
+use Rattle.tree_pivot.specs.Basis.{Network, Basis}
 use Rattle.tree_pivot.specs.PivotPotential.{near-root}
 use Rattle.tree_pivot.specs.PivotBasis.{CanPivotBasis, Joins, CheaperBasis}
 use Rattle.network_simplex.specs.Perturbed.{supplyOf, demandOf, true-agrees}
@@ -234,32 +234,42 @@ module _ {g : Graph} {m v : ℕ → ℕ} {parents above supply demand masks pote
       )
 
 module _ {g : Graph} {parents above supply demand masks potential : List ℕ} (can : CanSearch g parents above supply demand masks potential) where
-  pub search-reach : {reach : List ℕ} → length reach ≡ 512 → CanReach (g .lengths) reach
-  search-reach size =
+  pub search-reach : {reach : List ℕ} (k : ℕ) → length reach ≡ k → edges g ≤ k → CanReach (g .lengths) reach
+  search-reach k size few =
       let lists = lists-in g (can .accepted .lists) in
       record {
         room = omega (arith, lists);
         short = λ e l. edge-most g (can .accepted .lengths) (edge-up g e (omega (arith, lists)));
       }
 
-  pub search-reaches : {old reach : List ℕ} → length old ≡ 512 → Filled (length (g .lengths)) (reachOf (g .lengths)) old reach
-      → Reaches (edges g) (g .lengths) reach
-  search-reaches size filled = rw (lists-in g (can .accepted .lists) .1 .1) at (reaches-of (search-reach size) filled)
+  pub search-reaches : {old reach : List ℕ} (k : ℕ) → length old ≡ k → edges g ≤ k → Filled (length (g .lengths)) (reachOf (g .lengths)) old reach
+      → Reaches (edges g) (g .lengths) reach × (edges g ≤ length reach)
+  search-reaches k size few filled = (
+    rw (lists-in g (can .accepted .lists) .1 .1) at (reaches-of (search-reach k size few) filled),
+    omega (arith, filled .size),
+  )
+
+  pub search-few : g .n ≤ 64
+  search-few = can .network .few
+
+  pub search-edges : edges g ≤ 512
+  search-edges = lists-in g (can .accepted .lists) .0
 
 module _ {g : Graph} {parents₀ above₀ supply₀ demand₀ masks₀ potential₀ : List ℕ} (can : CanSearch g parents₀ above₀ supply₀ demand₀ masks₀ potential₀)
     {parents above supply demand masks potential : List ℕ} (kept : Kept g parents₀ above₀ supply₀ demand₀ masks₀ potential₀ parents above supply demand masks potential) where
   pub search-basis : Basis g (can .m) (can .v) parents above supply demand masks potential
   search-basis = kept (can .m) (can .v) (can .network) (can .basis)
 
-  pub search-enters : {reach : List ℕ} → length reach ≡ 512 → Reaches (edges g) (g .lengths) reach
+  pub search-enters : {reach : List ℕ} → Reaches (edges g) (g .lengths) reach × (edges g ≤ length reach)
       → CanEnter (g .n) (g .lower) (g .upper) reach supply demand potential
-  search-enters size reaches = record {
+  search-enters reaches = record {
     few = can .network .few;
+    edges-few = search-edges can;
     same-b = lists-in g (can .accepted .lists) .1 .0;
     low-a = λ e l. omega (arith, edge-order g (can .accepted .edges) e l);
     low-b = λ e l. omega (arith, edge-order g (can .accepted .edges) e l);
-    reach-size = omega (arith, lists-in g (can .accepted .lists) .0);
-    near = λ e l. omega (arith, reaches .each e l);
+    reach-size = reaches .1;
+    near = λ e l. omega (arith, reaches .0 .each e l);
     supply-size = omega (arith, search-basis .supply-size, can .network .few);
     demand-size = omega (arith, search-basis .demand-size, can .network .few);
     potential-size = omega (arith, search-basis .potential-size, can .network .few);

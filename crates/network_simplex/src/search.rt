@@ -1,9 +1,11 @@
 // The search for a best tree: network simplex.
 ghost use mathlib.Core.Path.{_≡_};
 ghost use mathlib.Core.Bool.{cond};
+ghost use Prim.Native.Nat.{_≤_};
 ghost use lib.ListN.{length};
 ghost use Rattle.arithmetic.specs.Table.{at};
 ghost use Rattle.graph.specs.Graph.{graph};
+ghost use Rattle.pivot_rules.specs.Entering.{Reaches};
 ghost use Rattle.network_simplex.specs.FirstBasis.{CanStart};
 ghost use Rattle.network_simplex.specs.Search.{ExchangeInput, Exchanged, CanImprove, Improved, CanSearch, Optimized, BestTree};
 use crate::first_basis;
@@ -97,7 +99,49 @@ fn improve(
     );
 }
 
-// Improves the basis until the potential violates no edge.
+// Improves the basis until the potential violates no edge. `reach` has the reach of each edge.
+fn improve_all(
+    n: usize,
+    a: &[u32],
+    b: &[u32],
+    lengths: &[u32],
+    reach: &[u64],
+    parents: &mut [u32],
+    above: &mut [u32],
+    supply: &mut [u64],
+    demand: &mut [u64],
+    masks: &mut [u64],
+    potential: &mut [u32],
+)
+    requires { ⌜ CanSearch (graph n (now a) (now b) (now lengths)) (now parents) (now above) (now supply) (now demand) (now masks) (now potential) ⌝ }
+    requires reaches { ⌜ Reaches (length (now a)) (now lengths) (now reach) × (length (now a) ≤ length (now reach)) ⌝ }
+    ensures { λ _.
+        ⌜ Optimized (graph n (now (a .entry)) (now (b .entry)) (now (lengths .entry)))
+        (now (parents .entry)) (now (above .entry)) (now (supply .entry)) (now (demand .entry)) (now (masks .entry)) (now (potential .entry))
+        (now (parents .exit)) (now (above .exit)) (now (supply .exit)) (now (demand .exit)) (now (masks .exit)) (now (potential .exit)) ⌝ }
+{
+    let mut height = [0u64; 64];
+    let mut e = entering::entering_edge(n, a, b, reach, supply, demand, potential, 0, &mut height);
+    while e < a.len() {
+        improve(
+            n,
+            a,
+            b,
+            lengths,
+            e,
+            parents,
+            above,
+            supply,
+            demand,
+            masks,
+            potential,
+        );
+        let next = entering::next_block(e);
+        e = entering::entering_edge(n, a, b, reach, supply, demand, potential, next, &mut height);
+    }
+}
+
+// The same, with the reaches; a table of 64 of them is enough where edges are few.
 fn search(
     n: usize,
     a: &[u32],
@@ -116,16 +160,15 @@ fn search(
         (now (parents .entry)) (now (above .entry)) (now (supply .entry)) (now (demand .entry)) (now (masks .entry)) (now (potential .entry))
         (now (parents .exit)) (now (above .exit)) (now (supply .exit)) (now (demand .exit)) (now (masks .exit)) (now (potential .exit)) ⌝ }
 {
-    let mut reach = [0u64; 512];
-    entering::reaches(lengths, &mut reach);
-    let mut e = entering::entering_edge(n, a, b, &reach, supply, demand, potential);
-    while e < a.len() {
-        improve(
+    if a.len() <= 64 {
+        let mut reach = [0u64; 64];
+        entering::reaches(lengths, &mut reach);
+        improve_all(
             n,
             a,
             b,
             lengths,
-            e,
+            &reach,
             parents,
             above,
             supply,
@@ -133,7 +176,22 @@ fn search(
             masks,
             potential,
         );
-        e = entering::entering_edge(n, a, b, &reach, supply, demand, potential);
+    } else {
+        let mut reach = [0u64; 512];
+        entering::reaches(lengths, &mut reach);
+        improve_all(
+            n,
+            a,
+            b,
+            lengths,
+            &reach,
+            parents,
+            above,
+            supply,
+            demand,
+            masks,
+            potential,
+        );
     }
 }
 

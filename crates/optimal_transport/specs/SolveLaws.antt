@@ -1,27 +1,28 @@
 -- The best call and the judging of a tree: what their checks accept, what their parts give, and how they end.
-use Prim.Native.Nat.{ℕ, zero, suc, _*_, _^_, _≤_}
+use Prim.Native.Nat.{ℕ, _*_, _^_, _≤_}
 use mathlib.Core.Path.{_≡_, refl, sym, _∙_}
-use mathlib.Core.Bool.{Bool, true, false, _&&_, and-false}
+use mathlib.Core.Bool.{Bool, true}
 use mathlib.Core.List.{List, _++_}
 use native.Mathlib.Nat.{mul-le-mul}
 use native.Mathlib.Omega.{arith}
 use lib.Dec.{eqb}
 use lib.IntN.{ℤ, pos, subℕ}
 use lib.ListN.{length, drop}
-use borrow.Author.Tests.{eqb-true, eq-eqb, ne-eqb, lt-leb}
-use Rattle.arithmetic.specs.Bools.{case≤, and-l, and-r}
+use borrow.Author.Tests.{eqb-true, eq-eqb, ne-eqb}
+use Rattle.arithmetic.specs.Bools.{and-l, and-r}
 use Rattle.arithmetic.specs.Sum.{sum, sum-ge}
-use Rattle.arithmetic.specs.Table.{at, tab, length-tab, length-rows}
+use Rattle.arithmetic.specs.Table.{at, tab, length-tab, length-rows, result-refused, written-refused}
+use Rattle.arithmetic.specs.Refusal.{refusal, testOf, numbered, every-holds}
 use Rattle.graph.specs.Graph.{Graph, graph}
-use Rattle.graph.specs.Checks.{verticesOk, graphRefusal}
-use Rattle.graph.specs.Accepted.{Accepted, vertices-in, not-refused, accepted-refusal, refused}
+use Rattle.graph.specs.Checks.{listsOk, sizeChecks, edgeChecks, graphChecks}
+use Rattle.graph.specs.Accepted.{Accepted, vertices-in, graph-passed}
 use Rattle.graph.specs.EdgeLaws.{edgeLength-most}
-use Rattle.graph.specs.FirstTree.{FirstTree, Checked}
-use Rattle.tree_checks.specs.Checks.{totalsOk, totalsEqual, measureRefusal}
+use Rattle.tree_checks.specs.Checks.{totalOk, measureChecks}
+use Rattle.tree_checks.specs.Totals.{total-in, equal-in}
 use Rattle.tree_checks.specs.TreeTests.{spanning-rooted}
 use Rattle.spanning_tree.specs.TreeValue.{parentsHeld}
-use Rattle.spanning_tree.specs.Given.{Given}
-use Rattle.spanning_tree.specs.GivenLaws.{GivenChecked, roomOk, two-passed, totals-in, equal-in, room-in}
+use Rattle.spanning_tree.specs.Given.{Given, answersOk}
+use Rattle.spanning_tree.specs.GivenLaws.{GivenChecked, given-accepted, room-in}
 use Rattle.tree_evaluation.specs.Weigh.{treeCost}
 use Rattle.tree_evaluation.specs.EvaluateTree.{LengthsTo, Evaluable, TreeEvaluated}
 use Rattle.tree_evaluation.specs.GivenTree.{given-evaluable, given-cost}
@@ -29,17 +30,15 @@ use Rattle.duality.specs.Best.{Best}
 use Rattle.duality.specs.BestCost.{bestCost}
 use Rattle.duality.specs.BestCostLaws.{best-is}
 use Rattle.duality.specs.BestLaws.{certificate-best}
-use Rattle.shortest_paths.specs.ShortestPathTree.{CanShorten}
-use Rattle.network_simplex.specs.FirstBasis.{CanStart, vertices}
+use Rattle.shortest_paths.specs.ShortestPathTree.{ShortestPathTree}
+use Rattle.shortest_paths.specs.ShortestPathLaws.{edge-tree}
+use Rattle.shortest_paths.specs.Ties.{Masses, TreeHeld}
+use Rattle.network_simplex.specs.FirstBasis.{CanStart}
 use Rattle.network_simplex.specs.Search.{BestTree}
-use Rattle.optimal_transport.specs.Solve.{solveRefusal, bestPlan, Solved}
+use Rattle.optimal_transport.specs.Solve.{measuresLong, solveChecks, solveRefusal, bestPlan, Solved}
 use Rattle.optimal_transport.specs.Judge.{judgeRefusal, givenCost, Judged}
 
 -- ---- checks 1 to 7
-
--- both paintings are n long, and the call's answer tables are fine
-abbrev pub measuresLong : ℕ → List ℕ → List ℕ → Bool → Bool
-measuresLong n mu nu answers = eqb (length mu) n && (eqb (length nu) n && answers)
 
 -- what they say of a graph and two paintings that they accept
 pub record CanSolve (g : Graph) (mu nu : List ℕ) : Type 0 where
@@ -49,116 +48,81 @@ pub record CanSolve (g : Graph) (mu nu : List ℕ) : Type 0 where
   pub mu-size : length mu ≡ g .n
   pub nu-size : length nu ≡ g .n
 
-pub can-start : {g : Graph} {mu nu tree edge : List ℕ} → CanSolve g mu nu → FirstTree g tree edge → length tree ≡ 64 → length edge ≡ 64
-    → CanStart g mu nu tree edge
-can-start can first t e = record {
-  accepted = can .accepted;
-  tree = first;
-  same = can .same;
-  light = can .light;
-  mu-size = can .mu-size;
-  nu-size = can .nu-size;
-  parents-size = t;
-  edge-size = e;
-}
+-- k is their number; if it is 0, the tables hold the tree of shortest paths from vertex 0
+pub record SolveChecked (g : Graph) (mu nu : List ℕ) (answers : Bool) (k : ℕ) (p s labels : List ℕ) : Type 0 where
+  pub number : k ≡ refusal (solveChecks g mu nu answers)
+  pub tree : k ≡ 0 → ShortestPathTree g 0 p s labels
 
-module _ {g : Graph} {mu nu tree edge : List ℕ} (start : CanStart g mu nu tree edge) where
-  pub can-shorten : CanShorten g mu nu tree edge
-  can-shorten = record {
-    accepted = start .accepted;
-    tree = start .tree;
-    parents-size = start .parents-size;
-    edge-size = start .edge-size;
-    masses = record {
-      mu-size = start .mu-size;
-      nu-size = start .nu-size;
-      mu-light = λ y l. omega (arith, sum-ge (g .n) y (at mu) l, start .light);
-      nu-light = λ y l. omega (arith, sum-ge (g .n) y (at nu) l, start .light, start .same);
-    };
+long-in : (n : ℕ) (mu nu : List ℕ) (answers : Bool) → measuresLong n mu nu answers ≡ true → (length mu ≡ n) × ((length nu ≡ n) × (answers ≡ true))
+unfolding measuresLong
+long-in n mu nu answers h =
+    let r = and-r (eqb (length mu) n) _ h in
+    (eqb-true _ _ (and-l (eqb (length mu) n) _ h), (eqb-true _ _ (and-l (eqb (length nu) n) _ r), and-r (eqb (length nu) n) _ r))
+
+-- checks 1 to 5 refuse nothing: both paintings are n long
+pub both-long : (r : ℕ) (g : Graph) (mu nu : List ℕ) (t answers : Bool) → t ≡ measuresLong (g .n) mu nu answers → r ≡ refusal (graphChecks g t) → r ≡ 0
+    → (length mu ≡ g .n) × (length nu ≡ g .n)
+both-long r g mu nu t answers e c z = let l = long-in (g .n) mu nu answers (sym e ∙ graph-passed g t (sym c ∙ z) .1) in (l .0, l .1 .0)
+
+-- nothing is refused: all of it is accepted, the answer tables too
+pub solve-passed : (g : Graph) (mu nu : List ℕ) (answers : Bool) → refusal (solveChecks g mu nu answers) ≡ 0 → CanSolve g mu nu × (answers ≡ true)
+unfolding sizeChecks edgeChecks measureChecks testOf numbered
+solve-passed g mu nu answers h =
+    let k = every-holds (solveChecks g mu nu answers) refl h in
+    let l = long-in (g .n) mu nu answers (and-r (listsOk g) _ (k 2)) in (
+      record {
+        accepted = record { vertices = k 1; lists = and-l (listsOk g) _ (k 2); edges = k 3; lengths = k 4; connected = k 5 };
+        same = equal-in (g .n) (at mu) (at nu) (k 7);
+        light = total-in (g .n) (at mu) (and-l (totalOk (g .n) (at mu)) _ (k 6));
+        mu-size = l .0;
+        nu-size = l .1 .0;
+      },
+      l .1 .1,
+    )
+
+-- ---- from the tree of shortest paths
+
+-- what the search for a best tree is given
+pub record CanFind (g : Graph) (mu nu p s labels : List ℕ) : Type 0 where
+  pub can : CanSolve g mu nu
+  pub tree : ShortestPathTree g 0 p s labels
+  pub parents-size : length p ≡ 64
+  pub edge-size : length s ≡ 64
+  pub labels-size : length labels ≡ 64
+
+module _ {g : Graph} {mu nu p s labels : List ℕ} (find : CanFind g mu nu p s labels) where
+  acc : Accepted g
+  acc = find .can .accepted
+
+  pub can-settle : TreeHeld g labels p s × Masses (g .n) mu nu
+  can-settle = (
+    record {
+      formed = record { vertices = acc .vertices; lists = acc .lists; edges = acc .edges; lengths = acc .lengths };
+      wide = (omega (arith, find .parents-size), (omega (arith, find .edge-size), omega (arith, find .labels-size)));
+      tree = find .tree;
+    },
+    record {
+      mu-size = find .can .mu-size;
+      nu-size = find .can .nu-size;
+      mu-light = λ y l. omega (arith, sum-ge (g .n) y (at mu) l, find .can .light);
+      nu-light = λ y l. omega (arith, sum-ge (g .n) y (at nu) l, find .can .light, find .can .same);
+    },
+  )
+
+  -- the search starts from another choice of parents
+  pub start-from : {p' s' : List ℕ} → TreeHeld g labels p' s' → length p' ≡ 64 → length s' ≡ 64 → CanStart g mu nu p' s'
+  start-from held lp ls = record {
+    accepted = acc;
+    tree = edge-tree (vertices-in (g .n) (acc .vertices) .0) (acc .edges) (held .tree);
+    same = find .can .same;
+    light = find .can .light;
+    mu-size = find .can .mu-size;
+    nu-size = find .can .nu-size;
+    parents-size = lp;
+    edge-size = ls;
   }
-
-  -- the search can start from another tree as well
-  pub start-from : {tree' edge' : List ℕ} → FirstTree g tree' edge' → length tree' ≡ 64 → length edge' ≡ 64 → CanStart g mu nu tree' edge'
-  start-from first t e = record {
-    accepted = start .accepted;
-    tree = first;
-    same = start .same;
-    light = start .light;
-    mu-size = start .mu-size;
-    nu-size = start .nu-size;
-    parents-size = t;
-    edge-size = e;
-  }
-
--- k is the number of the checks; if it is 0, the tables hold a first spanning tree
-pub record SolveChecked (g : Graph) (mu nu : List ℕ) (answers : Bool) (k : ℕ) (tree edge : List ℕ) : Type 0 where
-  pub number : k ≡ graphRefusal g (measuresLong (g .n) mu nu answers) (measureRefusal (g .n) (at mu) (at nu) 0)
-  pub start : k ≡ 0 → CanStart g mu nu tree edge
-
-module _ (n : ℕ) (mu nu : List ℕ) (answers : Bool) where
-  pub other-mu : (length mu ≡ n → ⊥) → false ≡ measuresLong n mu nu answers
-  other-mu h = rw (ne-eqb _ _ h)
-
-  pub other-nu : (length nu ≡ n → ⊥) → false ≡ measuresLong n mu nu answers
-  other-nu h = rw (ne-eqb _ _ h, and-false)
-
-  pub both-long : length mu ≡ n → length nu ≡ n → answers ≡ measuresLong n mu nu answers
-  both-long h k = rw (eq-eqb _ _ h, eq-eqb _ _ k)
-
-  long-in : measuresLong n mu nu answers ≡ true → (length mu ≡ n) × ((length nu ≡ n) × (answers ≡ true))
-  long-in h =
-      let r = and-r (eqb (length mu) n) _ h in
-      (eqb-true _ _ (and-l (eqb (length mu) n) _ h), (eqb-true _ _ (and-l (eqb (length nu) n) _ r), and-r (eqb (length nu) n) _ r))
-
-module _ (g : Graph) (mu nu : List ℕ) (answers : Bool) where
-  -- nothing is refused: all of it is accepted, the answer tables too
-  solve-passed : graphRefusal g (measuresLong (g .n) mu nu answers) (measureRefusal (g .n) (at mu) (at nu) 0) ≡ 0
-      → CanSolve g mu nu × (answers ≡ true)
-  solve-passed h =
-      let a = not-refused g (measuresLong (g .n) mu nu answers) _ h in
-      let l = long-in (g .n) mu nu answers (a .1 .0) in
-      let m = two-passed (totalsOk (g .n) (at mu) (at nu)) (totalsEqual (g .n) (at mu) (at nu)) 0 (a .1 .1) in (
-        record {
-          accepted = a .0;
-          same = equal-in (g .n) (at mu) (at nu) (m .1 .0);
-          light = totals-in (g .n) (at mu) (at nu) (m .0) .0;
-          mu-size = l .0;
-          nu-size = l .1 .0;
-        },
-        l .1 .1,
-      )
-
-number-refused : (g : Graph) (t : Bool) (rest k : ℕ) → k ≡ graphRefusal g t 0 → (k ≡ 0 → ⊥) → k ≡ graphRefusal g t rest
-number-refused g t rest zero e d = absurd (d refl)
-number-refused g t rest (suc k) e d = sym (refused g t k rest (sym e))
-
--- how the checks end; t is what is said of the lengths of the tables, and `first` the number of checks 1 to 5
-module _ (g : Graph) (mu nu : List ℕ) (answers : Bool) {t : Bool} {first : ℕ} {tree edge : List ℕ}
-    (fit : t ≡ measuresLong (g .n) mu nu answers) (checked : Checked g t first tree edge) where
-  pub graph-refused : (first ≡ 0 → ⊥) → SolveChecked g mu nu answers first tree edge
-  graph-refused d = record {
-    number = rw fit at (number-refused g t (measureRefusal (g .n) (at mu) (at nu) 0) first (checked .number) d);
-    start = λ z. absurd (d z);
-  }
-
-  module _ (z : first ≡ 0) where
-    accepts : Accepted g × (measuresLong (g .n) mu nu answers ≡ true)
-    accepts = let a = not-refused g t 0 (sym (checked .number) ∙ z) in (a .0, sym fit ∙ a .1 .0)
-
-    pub both-measures : (length mu ≡ g .n) × (length nu ≡ g .n)
-    both-measures = let l = long-in (g .n) mu nu answers (accepts .1) in (l .0, l .1 .0)
-
-    -- checks 6 and 7 have the last word
-    pub measures-checked : length tree ≡ 64 → length edge ≡ 64 → (k : ℕ) → k ≡ measureRefusal (g .n) (at mu) (at nu) 0
-        → SolveChecked g mu nu answers k tree edge
-    measures-checked t64 e64 k e =
-        let number = e ∙ sym (accepted-refusal g (measuresLong (g .n) mu nu answers) (accepts .0) (accepts .1) _) in
-        record { number = number; start = λ y. can-start (solve-passed g mu nu answers (sym number ∙ y) .0) (checked .first z) t64 e64 }
 
 -- ---- the tree found
-
-pub can-of : {g : Graph} {mu nu tree edge : List ℕ} → CanStart g mu nu tree edge → CanSolve g mu nu
-can-of s = record { accepted = s .accepted; same = s .same; light = s .light; mu-size = s .mu-size; nu-size = s .nu-size }
 
 -- a tree whose cost can be asked for: it can be evaluated, with tables for 64 vertices
 abbrev pub CanCost : (n r : ℕ) (parents above mu nu : List ℕ) → Type 0
@@ -236,93 +200,83 @@ module _ {g : Graph} {mu nu : List ℕ} (can : CanSolve g mu nu) {n r : ℕ} {pa
 -- ---- how the best call ends
 
 module _ (g : Graph) (mu nu parents : List ℕ) (potentials : List ℤ) (entries : List ℕ) (answers : Bool)
-    (room : g .n ≤ 64 → answers ≡ roomOk (g .n) (length parents) (length potentials) (length entries)) where
-  -- for more than 64 vertices what is said of the answer tables does not matter
-  same-number : graphRefusal g (measuresLong (g .n) mu nu answers) (measureRefusal (g .n) (at mu) (at nu) 0)
-      ≡ solveRefusal g mu nu parents potentials entries
-  unfolding graphRefusal verticesOk solveRefusal
-  same-number = case≤ (g .n) 64 (λ l. rw (room l)) (λ l. rw (lt-leb (g .n) 64 l, and-false))
+    (room : answers ≡ answersOk (g .n) (length parents) (length potentials) (length entries)) {k : ℕ} {tree edge labels : List ℕ}
+    (checked : SolveChecked g mu nu answers k tree edge labels) where
+  number : k ≡ solveRefusal g mu nu parents potentials entries
+  unfolding solveRefusal
+  number = rw (← room) (checked .number)
 
-  module _ {k : ℕ} {tree edge : List ℕ} (checked : SolveChecked g mu nu answers k tree edge) where
-    pub solve-refused : (k ≡ 0 → ⊥) → Solved g mu nu parents potentials entries k 0 0 parents potentials entries
-    solve-refused d =
-        elim k as (λ (k : ℕ). k ≡ solveRefusal g mu nu parents potentials entries → (k ≡ 0 → ⊥)
-        → Solved g mu nu parents potentials entries k 0 0 parents potentials entries) [
-          | zero ↦ λ e f. absurd (f refl)
-          | suc k ↦ λ e f. record {
-            refusal = e;
-            cost-is = refl;
-            p = at mu;
-            u = λ y. pos 0;
-            best = λ z. absurd (f z);
-            moves-are = refl;
-            parents-are = refl;
-            potentials-are = refl;
-            plan-is = refl;
+  pub solve-refused : (k ≡ 0 → ⊥) → Solved g mu nu parents potentials entries k 0 0 parents potentials entries
+  solve-refused d = record {
+    refusal = number;
+    cost-is = result-refused k _ d;
+    p = at mu;
+    u = λ y. pos 0;
+    best = λ z. absurd (d z);
+    moves-are = result-refused k _ d;
+    parents-are = written-refused k _ _ d;
+    potentials-are = written-refused k _ _ d;
+    plan-is = written-refused k _ _ d;
+  }
+
+  module _ (z : k ≡ 0) where
+    passed : CanSolve g mu nu × (answers ≡ true)
+    passed = solve-passed g mu nu answers (sym (checked .number) ∙ z)
+
+    pub can-solve : CanSolve g mu nu
+    can-solve = passed .0
+
+    pub room-for : (g .n ≤ length parents) × ((g .n ≤ length potentials) × (g .n * g .n ≤ length entries))
+    room-for = room-in (g .n) _ _ _ (sym room ∙ passed .1)
+
+    module _ {n r : ℕ} {best above u : List ℕ} (found : BestTree g (at mu) (at nu) n r best above u)
+        {imbalances imbalances' : List ℤ} {entries' : List ℕ} {cost moved : ℕ}
+        (promise : LengthsTo (graph n (g .lower) (g .upper) (g .lengths)) r (at best) (at above)
+        → TreeEvaluated (graph n (g .lower) (g .upper) (g .lengths)) r (at best) (at mu) (at nu)
+        imbalances entries cost moved imbalances' entries') where
+      pub solved : {parents' : List ℕ} {potentials' : List ℤ} → parents' ≡ tab n (at best) ++ drop n parents
+          → potentials' ≡ tab (g .n) (λ y. subℕ (at u y) (at u 0)) ++ drop (g .n) potentials
+          → Solved g mu nu parents potentials entries 0 cost moved parents' potentials' entries'
+      solved copied raised =
+          let value = found-value can-solve found promise in
+          record {
+            refusal = sym z ∙ number;
+            cost-is = found-cost can-solve found promise;
+            p = at best;
+            u = λ y. subℕ (at u y) (at u 0);
+            best = λ _. found-best can-solve found;
+            moves-are = value .moves-are;
+            parents-are = rw (length-tab (g .n) (at best)) (rw (found .vertices-are) at copied);
+            potentials-are = rw (length-tab (g .n) (λ y. subℕ (at u y) (at u 0))) raised;
+            plan-is = rw (length-rows (g .n) (g .n) (bestPlan g mu nu (at best))) (value .plan-is);
           }
-        ] (checked .number ∙ same-number) d
-
-    module _ (z : k ≡ 0) where
-      pub room-for : (g .n ≤ length parents) × ((g .n ≤ length potentials) × (g .n * g .n ≤ length entries))
-      room-for =
-          room-in (g .n) _ _ _
-          (sym (room (vertices (checked .start z) .1)) ∙ solve-passed g mu nu answers (sym (checked .number) ∙ z) .1)
-
-      module _ {n r : ℕ} {best above u : List ℕ} (found : BestTree g (at mu) (at nu) n r best above u)
-          {imbalances imbalances' : List ℤ} {entries' : List ℕ} {cost moved : ℕ}
-          (promise : LengthsTo (graph n (g .lower) (g .upper) (g .lengths)) r (at best) (at above)
-          → TreeEvaluated (graph n (g .lower) (g .upper) (g .lengths)) r (at best) (at mu) (at nu)
-          imbalances entries cost moved imbalances' entries') where
-        can : CanSolve g mu nu
-        can = can-of (checked .start z)
-
-        pub solved : {parents' : List ℕ} {potentials' : List ℤ} → parents' ≡ tab n (at best) ++ drop n parents
-            → potentials' ≡ tab (g .n) (λ y. subℕ (at u y) (at u 0)) ++ drop (g .n) potentials
-            → Solved g mu nu parents potentials entries 0 cost moved parents' potentials' entries'
-        solved copied raised =
-            let value = found-value can found promise in
-            record {
-              refusal = sym z ∙ checked .number ∙ same-number;
-              cost-is = found-cost can found promise;
-              p = at best;
-              u = λ y. subℕ (at u y) (at u 0);
-              best = λ _. found-best can found;
-              moves-are = value .moves-are;
-              parents-are = rw (length-tab (g .n) (at best)) (rw (found .vertices-are) at copied);
-              potentials-are = rw (length-tab (g .n) (λ y. subℕ (at u y) (at u 0))) raised;
-              plan-is = rw (length-rows (g .n) (g .n) (bestPlan g mu nu (at best))) (value .plan-is);
-            }
 
 -- ---- how the judging ends
 
-module _ {g : Graph} {w : Given} {k : ℕ} {above above' : List ℕ} (checked : GivenChecked g w true k above above') where
+module _ {g : Graph} {w : Given} {k : ℕ} {above above' first edge labels : List ℕ} (checked : GivenChecked g w true k above above' first edge labels) where
   judge-number : k ≡ judgeRefusal g w
   unfolding judgeRefusal
   judge-number = checked .number
 
   pub judge-refused : (k ≡ 0 → ⊥) → Judged g w k 0
-  judge-refused d =
-      elim k as (λ (k : ℕ). k ≡ judgeRefusal g w → (k ≡ 0 → ⊥) → Judged g w k 0) [
-        | zero ↦ λ e f. absurd (f refl)
-        | suc k ↦ λ e f. record { refusal = e; optimal-is = refl }
-      ] judge-number d
+  judge-refused d = record { refusal = judge-number; optimal-is = result-refused k _ d }
 
   module _ (z : k ≡ 0) where
-    pub can-solve : CanSolve g (w .mu) (w .nu)
-    can-solve =
-        let a = checked .accepted z in
+    pub can-judge : CanSolve g (w .mu) (w .nu)
+    can-judge =
+        let a = given-accepted checked z in
         record { accepted = a .graph; same = a .same-total; light = a .total-mu; mu-size = a .long-mu; nu-size = a .long-nu }
 
     -- the given tree by value
     module _ {n r : ℕ} {parents : List ℕ} (held : (n ≡ g .n) × ((r ≡ w .root) × (parents ≡ parentsHeld (g .n) (w .parents)))) where
       pub given-can : 64 ≤ length above → CanCost n r parents above' (w .mu) (w .nu)
       given-can long imbalances entries i e =
-          let o = room-64 g (can-solve .accepted) in
-          given-evaluable checked z held long (omega (arith, o .0)) (omega (arith, o .1))
+          let o = room-64 g (can-judge .accepted) in
+          given-evaluable (given-accepted checked z) (checked .lengths z) held long (omega (arith, o .0)) (omega (arith, o .1))
 
       module _ {cost least : ℕ} (costs : CostOf n r parents above' (w .mu) (w .nu) cost) (best : least ≡ bestCost g (at (w .mu)) (at (w .nu))) where
         given-is : cost ≡ givenCost g w
-        given-is = given-cost checked z held (costs (g .lower) (g .upper) (g .lengths))
+        given-is = given-cost (given-accepted checked z) (checked .lengths z) held (costs (g .lower) (g .upper) (g .lengths))
 
         pub judged-best : cost ≡ least → Judged g w 0 1
         judged-best e = record { refusal = sym z ∙ judge-number; optimal-is = rw (eq-eqb _ _ (sym given-is ∙ e ∙ best)) }

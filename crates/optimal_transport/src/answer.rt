@@ -7,10 +7,12 @@ ghost use lib.ListN.{length, drop};
 ghost use Rattle.arithmetic.specs.Table.{at, tab};
 ghost use Rattle.graph.specs.Graph.{graph};
 ghost use Rattle.tree_walks.specs.Sums.{Within};
+ghost use Rattle.shortest_paths.specs.ShortestPathTree.{Wide};
 ghost use Rattle.duality.specs.BestCost.{bestCost};
-ghost use Rattle.network_simplex.specs.FirstBasis.{CanStart};
 ghost use Rattle.network_simplex.specs.Search.{BestTree};
-ghost use Rattle.optimal_transport.specs.SolveLaws.{measuresLong, SolveChecked, CanSolve, CanCost, CostOf};
+ghost use Rattle.optimal_transport.specs.Solve.{measuresLong};
+ghost use Rattle.optimal_transport.specs.SolveLaws.{SolveChecked, CanFind, CanCost, CostOf};
+use shortest_paths::ties;
 use spanning_tree::tree::Tree;
 use tree_checks::checks;
 use tree_evaluation::evaluate_tree;
@@ -29,8 +31,8 @@ fn measures_fit(n: usize, mu: &[u64], nu: &[u64], answers: bool) -> bool
     answers
 }
 
-// Checks 1 to 7; `answers` says whether the caller's answer tables pass check 2. Where nothing is refused, a first spanning tree stands
-// in the two scratch tables.
+// Checks 1 to 7; `answers` says whether the caller's answer tables pass check 2. Where nothing is refused, the tree of shortest paths from vertex 0 stands in the
+// three scratch tables.
 pub fn solve_refusal(
     n: usize,
     a: &[u32],
@@ -39,22 +41,23 @@ pub fn solve_refusal(
     mu: &[u64],
     nu: &[u64],
     answers: bool,
-    tree: &mut [u32],
+    first: &mut [u32],
     edge: &mut [u32],
+    labels: &mut [u32],
 ) -> u32
-    requires { ⌜ (length (now tree) ≡ 64) × (length (now edge) ≡ 64) ⌝ }
+    requires { ⌜ Wide (now first) (now edge) (now labels) ⌝ }
     ensures { λ k. ⌜ SolveChecked (graph n (now (a .entry)) (now (b .entry)) (now (lengths .entry))) (now (mu .entry)) (now (nu .entry)) answers k
-        (now (tree .exit)) (now (edge .exit)) ⌝ }
+        (now (first .exit)) (now (edge .exit)) (now (labels .exit)) ⌝ }
 {
     let tables = measures_fit(n, mu, nu, answers);
-    let first = graph::check(n, a, b, lengths, tables, tree, edge);
-    if first != 0 {
-        return first;
+    let k = shortest_paths::check(n, a, b, lengths, tables, first, edge, labels);
+    if k != 0 {
+        return k;
     }
     checks::measures_refusal(n, mu, nu)
 }
 
-// A best tree, from a first spanning tree; fills in the length above each of its vertices, and its potential.
+// A best tree, from the tree of shortest paths; fills in the length above each of its vertices, and its potential.
 pub fn best_answer(
     n: usize,
     a: &[u32],
@@ -62,18 +65,19 @@ pub fn best_answer(
     lengths: &[u32],
     mu: &[u64],
     nu: &[u64],
-    parents: &mut [u32],
+    first: &mut [u32],
     edge: &mut [u32],
+    labels: &[u32],
     above: &mut [u32],
     u: &mut [u32],
 ) -> Tree
-    requires { ⌜ CanStart (graph n (now a) (now b) (now lengths)) (now mu) (now nu) (now parents) (now edge)
+    requires { ⌜ CanFind (graph n (now a) (now b) (now lengths)) (now mu) (now nu) (now first) (now edge) (now labels)
         × ((length (now above) ≡ 64) × (length (now u) ≡ 64)) ⌝ }
     ensures { λ t. ⌜ BestTree (graph n (now (a .entry)) (now (b .entry)) (now (lengths .entry))) (at (now (mu .entry))) (at (now (nu .entry)))
         (t .n) (t .root) (t .parents) (now (above .exit)) (now (u .exit)) ⌝ }
 {
-    shortest_paths::shortest_path_tree(n, a, b, lengths, mu, nu, parents, edge);
-    network_simplex::search::best_tree(n, a, b, lengths, mu, nu, parents, edge, above, u)
+    ties::settle_ties(a, b, lengths, mu, nu, labels, first, edge);
+    network_simplex::search::best_tree(n, a, b, lengths, mu, nu, first, edge, above, u)
 }
 
 // Fills in the parents of a tree.
@@ -82,10 +86,9 @@ pub fn write_parents(tree: Tree, parents: &mut [u32])
     ensures { λ _. ⌜ now (parents .exit) ≡ tab (tree .n) (at (tree .parents)) ++ drop (tree .n) (now (parents .entry)) ⌝ }
 {
     let n = tree.n;
-    let held = tree.parents;
     let mut x: usize = 0;
     while x < n {
-        parents[x] = held[x];
+        parents[x] = tree.parents[x];
         x += 1;
     }
 }
@@ -114,16 +117,23 @@ pub fn cost_of(tree: Tree, above: &[u32], mu: &[u64], nu: &[u64]) -> u64
     value.cost
 }
 
-// The cost of a best tree.
-pub fn least_cost(n: usize, a: &[u32], b: &[u32], lengths: &[u32], mu: &[u64], nu: &[u64]) -> u64
-    requires { ⌜ CanSolve (graph n (now a) (now b) (now lengths)) (now mu) (now nu) ⌝ }
+// The cost of a best tree, from the tree of shortest paths.
+pub fn least_cost(
+    n: usize,
+    a: &[u32],
+    b: &[u32],
+    lengths: &[u32],
+    mu: &[u64],
+    nu: &[u64],
+    first: &mut [u32],
+    edge: &mut [u32],
+    labels: &[u32],
+) -> u64
+    requires { ⌜ CanFind (graph n (now a) (now b) (now lengths)) (now mu) (now nu) (now first) (now edge) (now labels) ⌝ }
     ensures { λ r. ⌜ r ≡ bestCost (graph n (now (a .entry)) (now (b .entry)) (now (lengths .entry))) (at (now (mu .entry))) (at (now (nu .entry))) ⌝ }
 {
-    let mut parents = [0u32; 64];
-    let mut edge = [0u32; 64];
     let mut above = [0u32; 64];
     let mut u = [0u32; 64];
-    graph::check(n, a, b, lengths, true, &mut parents, &mut edge);
     let tree = best_answer(
         n,
         a,
@@ -131,8 +141,9 @@ pub fn least_cost(n: usize, a: &[u32], b: &[u32], lengths: &[u32], mu: &[u64], n
         lengths,
         mu,
         nu,
-        &mut parents,
-        &mut edge,
+        first,
+        edge,
+        labels,
         &mut above,
         &mut u,
     );

@@ -41,14 +41,26 @@ pub fn solve(
 {
     let mut first = [0u32; 64];
     let mut edge = [0u32; 64];
+    let mut labels = [0u32; 64];
     let mut above = [0u32; 64];
     let mut u = [0u32; 64];
     let mut imbalance = [0i32; 64];
     let room = given::has_room(n, parents.len(), potential.len(), plan.len());
-    let k = answer::solve_refusal(n, a, b, lengths, mu, nu, room, &mut first, &mut edge);
-    if k != 0 {
+    let refusal = answer::solve_refusal(
+        n,
+        a,
+        b,
+        lengths,
+        mu,
+        nu,
+        room,
+        &mut first,
+        &mut edge,
+        &mut labels,
+    );
+    if refusal != 0 {
         return Solution {
-            refusal: k,
+            refusal,
             cost: 0,
             moves: 0,
         };
@@ -62,6 +74,7 @@ pub fn solve(
         nu,
         &mut first,
         &mut edge,
+        &labels,
         &mut above,
         &mut u,
     );
@@ -90,7 +103,24 @@ pub fn is_optimal(
         (given (now (mu .entry)) (now (nu .entry)) root (now (parents .entry))) (r .refusal) (r .optimal) ⌝ }
 {
     let mut above = [0u32; 64];
-    let k = given::given_refusal(n, a, b, lengths, mu, nu, root, parents, true, &mut above);
+    let mut first = [0u32; 64];
+    let mut edge = [0u32; 64];
+    let mut labels = [0u32; 64];
+    let k = given::given_refusal(
+        n,
+        a,
+        b,
+        lengths,
+        mu,
+        nu,
+        root,
+        parents,
+        true,
+        &mut above,
+        &mut first,
+        &mut edge,
+        &mut labels,
+    );
     if k != 0 {
         return Judgment {
             refusal: k,
@@ -99,7 +129,7 @@ pub fn is_optimal(
     }
     let tree = Tree::new(n, root, parents);
     let cost = answer::cost_of(tree, &above, mu, nu);
-    let least = answer::least_cost(n, a, b, lengths, mu, nu);
+    let least = answer::least_cost(n, a, b, lengths, mu, nu, &mut first, &mut edge, &labels);
     if cost == least {
         return Judgment {
             refusal: 0,

@@ -1,12 +1,13 @@
--- The entering edge: the one that the potential U violates the most, by changing along it by more than its length. It is found by heights,
+-- The entering edge: the one of a block of edges that the potential U violates the most, by changing along it by more than its length. It is found by heights,
 -- which measure the potential in units of 2 ^ 36 and have room beside it for the flows, by which edges that are violated equally are told apart.
-use Prim.Native.Nat.{ℕ, _+_, _-_, _*_, _^_, _≤_, _<_}
+use Prim.Native.Nat.{ℕ, _+_, _-_, _*_, _^_, _≤_, _<_, min}
 use mathlib.Core.Path.{_≡_, refl}
 use mathlib.Core.List.{List}
 use mathlib.Core.Logic.{_⊎_, inl, inr, ⊎-elim}
 use native.Mathlib.Omega.{arith}
 use lib.ListN.{length}
 use borrow.Author.Count.{below-more}
+use Rattle.arithmetic.specs.Bools.{case≡, case<}
 use Rattle.arithmetic.specs.Product.{gap}
 use Rattle.arithmetic.specs.Table.{at}
 use Rattle.tree_walks.specs.Walk.{Filled}
@@ -15,11 +16,15 @@ use Rattle.tree_walks.specs.Walk.{Filled}
 abbrev pub excess : List ℕ → List ℕ → List ℕ → List ℕ → ℕ → ℕ
 excess a b lengths U e = gap (at U (at a e)) (at U (at b e)) - at lengths e
 
--- e is the edge that U violates the most; or U violates none, and e is the number of edges
+-- edge e is in block k
+abbrev pub InBlock : ℕ → ℕ → Type 0
+InBlock k e = (64 * k ≤ e) × (e < 64 * k + 64)
+
+-- e is the edge of its block that U violates the most; or U violates none, and e is the number of edges
 pub record Entering (a b lengths U : List ℕ) (e : ℕ) : Type 0 where
   pub none : e ≡ length a → (i : ℕ) → i < length a → gap (at U (at a i)) (at U (at b i)) ≤ at lengths i
   pub some : (e ≡ length a → ⊥) → (e < length a) × (at lengths e < gap (at U (at a e)) (at U (at b e)))
-  pub most : (e ≡ length a → ⊥) → (i : ℕ) → i < length a → excess a b lengths U i ≤ excess a b lengths U e
+  pub most : (e ≡ length a → ⊥) → (k i : ℕ) → InBlock k e → InBlock k i → i < length a → excess a b lengths U i ≤ excess a b lengths U e
 
 -- ---- heights and reaches
 
@@ -53,6 +58,7 @@ pub record CanRise (n : ℕ) (supply demand U out : List ℕ) : Type 0 where
 
 -- the edges' ends have heights
 pub record CanScan (a b reach height : List ℕ) : Type 0 where
+  pub few : length a ≤ 512
   pub same-b : length b ≡ length a
   pub reach-size : length a ≤ length reach
   pub near : (e : ℕ) → e < length a → at reach e ≤ 2 ^ 52
@@ -61,6 +67,7 @@ pub record CanScan (a b reach height : List ℕ) : Type 0 where
 
 pub record CanEnter (n : ℕ) (a b reach supply demand U : List ℕ) : Type 0 where
   pub few : n ≤ 64
+  pub edges-few : length a ≤ 512
   pub same-b : length b ≡ length a
   pub low-a : (e : ℕ) → e < length a → at a e < n
   pub low-b : (e : ℕ) → e < length a → at b e < n
@@ -78,40 +85,80 @@ reaches-of can filled = record { each = λ e l. omega (arith, filled .each e l, 
 
 -- ---- the largest excess
 
--- e has the largest excess; or none has half a unit, and e is the number of edges
-pub record Tallest (a b reach height : List ℕ) (e : ℕ) : Type 0 where
-  pub none : e ≡ length a → (i : ℕ) → i < length a → raised a b reach height i ≤ 2 ^ 52 + 2 ^ 35
-  pub some : (e ≡ length a → ⊥) → (e < length a) × (2 ^ 52 + 2 ^ 35 < raised a b reach height e)
-  pub most : (e ≡ length a → ⊥) → (i : ℕ) → i < length a → raised a b reach height i ≤ raised a b reach height e
+-- no edge from `low` to before `high` has half a unit
+abbrev pub Clear : (a b reach height : List ℕ) → (low high : ℕ) → Type 0
+Clear a b reach height low high = (i : ℕ) → low ≤ i → i < high → i < length a → raised a b reach height i ≤ 2 ^ 52 + 2 ^ 35
 
--- the same of the edges before k, with the largest excess `worst`
-pub record TallestTo (a b reach height : List ℕ) (k best worst : ℕ) : Type 0 where
-  pub most : (e : ℕ) → e < k → raised a b reach height e ≤ worst
-  pub found : ((best ≡ length a) × (worst ≡ 2 ^ 52 + 2 ^ 35)) ⊎ ((best < k) × ((worst ≡ raised a b reach height best) × (2 ^ 52 + 2 ^ 35 < worst)))
+-- e has half a unit, and the largest excess of its block; or no edge from `low` to before `high` has half a unit, and e is the number of edges
+pub record Tallest (a b reach height : List ℕ) (low high e : ℕ) : Type 0 where
+  pub none : e ≡ length a → Clear a b reach height low high
+  pub some : (e ≡ length a → ⊥) → (e < length a) × (2 ^ 52 + 2 ^ 35 < raised a b reach height e)
+  pub most : (e ≡ length a → ⊥) → (k i : ℕ) → InBlock k e → InBlock k i → i < length a → raised a b reach height i ≤ raised a b reach height e
+
+-- of the edges from `first` to before k, the largest excess is `worst`
+pub record TallestTo (a b reach height : List ℕ) (first k best worst : ℕ) : Type 0 where
+  pub most : (e : ℕ) → e < k → first ≤ e → raised a b reach height e ≤ worst
+  pub found : ((best ≡ length a) × (worst ≡ 2 ^ 52 + 2 ^ 35))
+      ⊎ ((first ≤ best) × ((best < k) × ((worst ≡ raised a b reach height best) × (2 ^ 52 + 2 ^ 35 < worst))))
 
 module _ (a b reach height : List ℕ) where
-  pub tallest-none : TallestTo a b reach height 0 (length a) (2 ^ 52 + 2 ^ 35)
-  tallest-none = record { most = λ e h. absurd (omega arith); found = inl (refl, refl) }
+  pub tallest-none : (first : ℕ) → TallestTo a b reach height first first (length a) (2 ^ 52 + 2 ^ 35)
+  tallest-none first = record { most = λ e h l. absurd (omega arith); found = inl (refl, refl) }
 
-  module _ (k best worst x : ℕ) (so-far : TallestTo a b reach height k best worst) (x-is : x ≡ raised a b reach height k) where
-    pub tallest-more : worst < x → TallestTo a b reach height (k + 1) k x
+  module _ (first k best worst x : ℕ) (from : first ≤ k) (so-far : TallestTo a b reach height first k best worst) (x-is : x ≡ raised a b reach height k) where
+    pub tallest-more : worst < x → TallestTo a b reach height first (k + 1) k x
     tallest-more l = record {
-      most = below-more (λ e. raised a b reach height e ≤ x) k (λ e i. omega (arith, so-far .most e i)) (omega (arith, x-is));
-      found = inr (omega arith, (x-is, ⊎-elim (λ f. omega arith) (λ f. omega arith) (so-far .found)));
+      most = below-more (λ e. first ≤ e → raised a b reach height e ≤ x) k (λ e i f. omega (arith, so-far .most e i f)) (λ f. omega (arith, x-is));
+      found = inr (from, (omega arith, (x-is, ⊎-elim (λ f. omega arith) (λ f. omega arith) (so-far .found))));
     }
 
-    pub tallest-keep : x ≤ worst → TallestTo a b reach height (k + 1) best worst
+    pub tallest-keep : x ≤ worst → TallestTo a b reach height first (k + 1) best worst
     tallest-keep l = record {
-      most = below-more (λ e. raised a b reach height e ≤ worst) k (so-far .most) (omega (arith, x-is));
-      found = ⊎-elim inl (λ f. inr (omega arith, f .1)) (so-far .found);
+      most = below-more (λ e. first ≤ e → raised a b reach height e ≤ worst) k (so-far .most) (λ f. omega (arith, x-is));
+      found = ⊎-elim inl (λ f. inr (f .0, (omega arith, f .1 .1))) (so-far .found);
     }
 
-  pub tallest-end : (k best worst : ℕ) → length a ≤ k → k ≤ length a → TallestTo a b reach height k best worst → Tallest a b reach height best
-  tallest-end k best worst all only w = record {
-    none = λ e i l. ⊎-elim (λ d. omega (arith, w .most i (omega arith))) (λ d. absurd (omega arith)) (w .found);
+  pub tallest-end : (block k best worst : ℕ) → 64 * block < length a → min (64 * block + 64) (length a) ≤ k → k ≤ min (64 * block + 64) (length a)
+      → TallestTo a b reach height (64 * block) k best worst → Tallest a b reach height (64 * block) (64 * block + 64) best
+  tallest-end block k best worst here all only w = record {
+    none = λ e i l h m. ⊎-elim (λ d. omega (arith, w .most i (omega arith) l)) (λ d. absurd (omega arith)) (w .found);
     some = λ ne. ⊎-elim (λ d. absurd (ne (d .0))) (λ d. (omega arith, omega arith)) (w .found);
-    most = λ ne i l. ⊎-elim (λ d. absurd (ne (d .0))) (λ d. omega (arith, w .most i (omega arith))) (w .found);
+    most = λ ne j i be bi l. ⊎-elim (λ d. absurd (ne (d .0)))
+        (λ d. let q : j ≡ block = omega arith in omega (arith, w .most i (omega arith) (omega arith))) (w .found);
   }
+
+  -- block by block
+  module _ {low e : ℕ} (k : ℕ) (clear : Clear a b reach height low (64 * k)) (w : Tallest a b reach height (64 * k) (64 * k + 64) e) where
+    pub clear-more : length a ≤ e → Clear a b reach height low (64 * (k + 1))
+    clear-more past i l h m =
+        case< i (64 * k)
+        (λ q. clear i l q m)
+        (λ q. case≡ e (length a) (λ d. w .none d i q (omega arith) m) (λ d. absurd (omega (arith, w .some d))))
+
+    pub tallest-found : (high : ℕ) → e < length a → Tallest a b reach height low high e
+    tallest-found high here = record { none = λ d. absurd (omega arith); some = w .some; most = w .most }
+
+  pub tallest-clear : (low high k e : ℕ) → high ≤ 64 * k → e ≡ length a → Clear a b reach height low (64 * k) → Tallest a b reach height low high e
+  tallest-clear low high k e end is clear = record {
+    none = λ d i l h m. clear i l (omega arith) m;
+    some = λ ne. absurd (ne is);
+    most = λ ne. absurd (ne is);
+  }
+
+  -- from a block on to the end, and then before that block
+  module _ (block : ℕ) {e : ℕ} (w : Tallest a b reach height (64 * block) (length a) e) where
+    pub tallest-first : e < length a → Tallest a b reach height 0 (length a) e
+    tallest-first here = record { none = λ d. absurd (omega arith); some = w .some; most = w .most }
+
+    pub tallest-second : {f : ℕ} → length a ≤ e → Tallest a b reach height (64 * 0) (64 * block) f → Tallest a b reach height 0 (length a) f
+    tallest-second past v = record {
+      none = λ d i l h m.
+          case< i (64 * block)
+          (λ q. v .none d i (omega arith) q m)
+          (λ q. case≡ e (length a) (λ z. w .none z i q h m) (λ z. absurd (omega (arith, w .some z))));
+      some = v .some;
+      most = v .most;
+    }
 
 -- ---- what heights say of the potential
 
@@ -145,6 +192,7 @@ module _ {n : ℕ} {a b reach supply demand U : List ℕ} (can : CanEnter n a b 
 
     pub can-scan : n ≤ length old → CanScan a b reach height
     can-scan room = record {
+      few = can .edges-few;
       same-b = can .same-b;
       reach-size = can .reach-size;
       near = can .near;
@@ -159,9 +207,11 @@ module _ {n : ℕ} {a b reach supply demand U : List ℕ} (can : CanEnter n a b 
       high : (e : ℕ) → e < length a → gap (at height (at a e)) (at height (at b e)) ≤ 2 ^ 36 * gap (at U (at a e)) (at U (at b e)) + 2 ^ 33
       high e l = gap-high (measured (at a e) (can .low-a e l)) (measured (at b e) (can .low-b e l))
 
-      pub enters : {e : ℕ} → Tallest a b reach height e → Entering a b lengths U e
+      pub enters : {e : ℕ} → Tallest a b reach height 0 (length a) e → Entering a b lengths U e
       enters {e} w = record {
-        none = λ q i l. omega (arith, w .none q i l, reaches .each i l, low i l);
+        none = λ q i l. omega (arith, w .none q i (omega arith) l l, reaches .each i l, low i l);
         some = λ ne. let s = w .some ne in (s .0, omega (arith, s .1, reaches .each e (s .0), high e (s .0)));
-        most = λ ne i l. let s = w .some ne .0 in fine-le _ _ _ _ _ _ _ _ (reaches .each i l) (reaches .each e s) (low i l) (high e s) (w .most ne i l);
+        most = λ ne k i be bi l.
+            let s = w .some ne .0 in
+            fine-le _ _ _ _ _ _ _ _ (reaches .each i l) (reaches .each e s) (low i l) (high e s) (w .most ne k i be bi l);
       }

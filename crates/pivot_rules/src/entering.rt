@@ -1,10 +1,9 @@
 // The edge that enters the tree.
 ghost use mathlib.Core.Path.{_≡_};
 ghost use mathlib.Core.List.{List};
-ghost use Prim.Native.Nat.{ℕ, _+_, _-_, _*_, _^_, _≤_, _<_};
+ghost use Prim.Native.Nat.{ℕ, _+_, _-_, _*_, _^_, _≤_, _<_, min};
 ghost use lib.ListN.{length};
 ghost use Rattle.arithmetic.specs.Product.{gap};
-ghost use Rattle.arithmetic.specs.Table.{at};
 ghost use Rattle.tree_walks.specs.Walk.{Filled};
 ghost use Rattle.pivot_rules.specs.Entering.{heightOf, reachOf, raised, Reaches, CanReach, CanRise, CanScan, Tallest, CanEnter, Entering};
 
@@ -19,6 +18,9 @@ const LEVEL: u64 = 1 << 52;
 
 // Flows make up less, and a violation makes up more.
 const HALF: u64 = 1 << 35;
+
+// Edges are looked at in blocks of so many.
+const BLOCK: usize = 64;
 
 // What an edge of length `long` leaves of the level.
 fn reach_of(long: u32) -> u64
@@ -79,15 +81,24 @@ fn excess_of(a: &[u32], b: &[u32], reach: &[u64], height: &[u64], e: usize) -> u
     reach[e] + change(height[x], height[y])
 }
 
-// The edge with the largest excess, or the number of edges if none has half a unit.
-fn worst_edge(a: &[u32], b: &[u32], reach: &[u64], height: &[u64]) -> usize
-    requires { ⌜ CanScan (now a) (now b) (now reach) (now height) ⌝ }
-    ensures { λ r. ⌜ Tallest (now (a .entry)) (now (b .entry)) (now (reach .entry)) (now (height .entry)) r ⌝ }
+// Where the block that begins at edge `first` of m ends.
+fn block_end(first: usize, m: usize) -> usize
+    requires { ⌜ first ≤ 512 ⌝ }
+    ensures { λ r. ⌜ r ≡ min (first + 64) m ⌝ }
+{
+    if first + BLOCK < m { first + BLOCK } else { m }
+}
+
+// The edge of a block with the largest excess, or the number of edges if none there has half a unit.
+fn worst_of_block(a: &[u32], b: &[u32], reach: &[u64], height: &[u64], block: usize) -> usize
+    requires { ⌜ CanScan (now a) (now b) (now reach) (now height) × (64 * block < length (now a)) ⌝ }
+    ensures { λ r. ⌜ Tallest (now (a .entry)) (now (b .entry)) (now (reach .entry)) (now (height .entry)) (64 * block) (64 * block + 64) r ⌝ }
 {
     let mut best = a.len();
     let mut worst = LEVEL + HALF;
-    let mut e = 0;
-    while e < a.len() {
+    let mut e = BLOCK * block;
+    let end = block_end(e, a.len());
+    while e < end {
         let x = excess_of(a, b, reach, height, e);
         if worst < x {
             best = e;
@@ -98,7 +109,41 @@ fn worst_edge(a: &[u32], b: &[u32], reach: &[u64], height: &[u64]) -> usize
     best
 }
 
-// The next edge to enter: the one that the potential violates the most, or the number of edges if it violates none.
+// The worst edge of the first block that has a violated one, of the blocks from `first` on that begin before edge `end`; or the number of
+// edges if none has.
+fn worst_from(
+    a: &[u32],
+    b: &[u32],
+    reach: &[u64],
+    height: &[u64],
+    first: usize,
+    end: usize,
+) -> usize
+    requires { ⌜ CanScan (now a) (now b) (now reach) (now height) × (64 * first < length (now a) + 64)
+        × ((k : ℕ) → 64 * k < end → 64 * k < length (now a)) ⌝ }
+    ensures { λ r. ⌜ Tallest (now (a .entry)) (now (b .entry)) (now (reach .entry)) (now (height .entry)) (64 * first) end r ⌝ }
+{
+    let mut block = first;
+    while BLOCK * block < end {
+        let e = worst_of_block(a, b, reach, height, block);
+        if e < a.len() {
+            return e;
+        }
+        block += 1;
+    }
+    a.len()
+}
+
+// The block behind that of edge e.
+pub fn next_block(e: usize) -> usize
+    requires { ⌜ e < 512 ⌝ }
+    ensures { λ r. ⌜ 64 * r < e + 65 ⌝ }
+{
+    e / BLOCK + 1
+}
+
+// The next edge to enter: of the first block from `block` on, round all of them, that has a violated edge, the one that the potential violates the most; or
+// the number of edges if it violates none.
 pub fn entering_edge(
     n: usize,
     a: &[u32],
@@ -107,12 +152,18 @@ pub fn entering_edge(
     supply: &[u64],
     demand: &[u64],
     potential: &[u32],
+    block: usize,
+    height: &mut [u64],
 ) -> usize
-    requires { ⌜ CanEnter n (now a) (now b) (now reach) (now supply) (now demand) (now potential) ⌝ }
+    requires { ⌜ CanEnter n (now a) (now b) (now reach) (now supply) (now demand) (now potential) × (64 * block < length (now a) + 64)
+        × (n ≤ length (now height)) ⌝ }
     ensures { λ r. ⌜ ((lengths : List ℕ) → Reaches (length (now (a .entry))) lengths (now (reach .entry))
         → Entering (now (a .entry)) (now (b .entry)) lengths (now (potential .entry)) r) ⌝ }
 {
-    let mut height = [0u64; 64];
-    heights(n, supply, demand, potential, &mut height);
-    worst_edge(a, b, reach, &height)
+    heights(n, supply, demand, potential, height);
+    let e = worst_from(a, b, reach, height, block, a.len());
+    if e < a.len() {
+        return e;
+    }
+    worst_from(a, b, reach, height, 0, BLOCK * block)
 }

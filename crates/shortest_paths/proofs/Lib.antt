@@ -1,2 +1,3 @@
 pub mod Labelling
 pub mod Settling
+pub mod Connecting

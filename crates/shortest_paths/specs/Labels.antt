@@ -4,14 +4,18 @@ use Prim.Native.Nat.{ℕ, _+_, _^_, _≤_, _<_}
 use mathlib.Core.Path.{_≡_}
 use mathlib.Core.Bool.{Bool, true, false}
 use mathlib.Core.List.{List}
-use lib.ListN.{length}
+use lib.ListN.{length, set}
 use lib.Dec.{ltb}
 use Rattle.arithmetic.specs.Sum.{sum, pick}
 use Rattle.arithmetic.specs.Table.{at}
 use Rattle.graph.specs.Graph.{Graph, graph, edges, joins}
-use Rattle.graph.specs.Accepted.{Accepted}
-use Rattle.graph.specs.Marks.{put}
-use Rattle.shortest_paths.specs.Weight.{weightOf, Within}
+use Rattle.shortest_paths.specs.Weight.{weightOf, unreached, Within}
+use Rattle.shortest_paths.specs.ShortestPathTree.{Wide, CanSearch}
+
+-- what a store leaves, made or not
+abbrev pub put : Bool → List ℕ → ℕ → ℕ → List ℕ
+put true l i x = set l i x
+put false l i x = l
 
 -- v hangs on its parent by an edge, and its label is no less than the parent's and the edge's weight
 pub record Hangs (g : Graph) (p s labels : List ℕ) (v : ℕ) : Type 0 where
@@ -19,25 +23,30 @@ pub record Hangs (g : Graph) (p s labels : List ℕ) (v : ℕ) : Type 0 where
   pub ends : joins g (at s v) v (at p v) ≡ true
   pub covers : at labels (at p v) + weightOf (at (g .lengths) (at s v)) ≤ at labels v
 
--- vertex 0 is its own parent, with label 0, and each other vertex hangs
-pub record Labelled (g : Graph) (p s labels : List ℕ) : Type 0 where
-  pub accepted : Accepted g
-  pub parents-size : 64 ≤ length p
-  pub edge-size : 64 ≤ length s
-  pub labels-size : 64 ≤ length labels
-  pub root : at p 0 ≡ 0
-  pub origin : at labels 0 ≡ 0
-  pub most : (v : ℕ) → v < g .n → at labels v ≤ 2 ^ 28
-  pub hangs : (v : ℕ) → v < g .n → (v ≡ 0 → ⊥) → Hangs g p s labels v
+-- r is its own parent, with label 0; labels fall from each other vertex to its parent, and one that is reached hangs
+pub record Labelled (g : Graph) (r : ℕ) (p s labels : List ℕ) : Type 0 where
+  pub can : CanSearch g r p s labels
+  pub root : at p r ≡ r
+  pub origin : at labels r ≡ 0
+  pub most : (v : ℕ) → v < g .n → at labels v ≤ unreached
+  pub into : (v : ℕ) → v < g .n → at p v < g .n
+  pub falls : (v : ℕ) → v < g .n → (v ≡ r → ⊥) → at labels (at p v) < at labels v
+  pub hangs : (v : ℕ) → v < g .n → (v ≡ r → ⊥) → at labels v < unreached → Hangs g p s labels v
+
+-- r alone is reached, and all hang on it
+pub record Cleared (r : ℕ) (p labels p' labels' : List ℕ) : Type 0 where
+  pub parents-size : length p' ≡ length p
+  pub labels-size : length labels' ≡ length labels
+  pub parents : (v : ℕ) → v < 64 → at p' v ≡ r
+  pub origin : at labels' r ≡ 0
+  pub others : (v : ℕ) → v < 64 → (v ≡ r → ⊥) → at labels' v ≡ unreached
 
 -- the tables have room to hang y on x along edge e, of weight w
 pub record CanHang (x y e w : ℕ) (p s labels : List ℕ) : Type 0 where
   pub from : x < 64
   pub to : y < 64
   pub number : e < 512
-  pub parents-size : 64 ≤ length p
-  pub edge-size : 64 ≤ length s
-  pub labels-size : 64 ≤ length labels
+  pub wide : Wide p s labels
   pub light : at labels x + w < 2 ^ 32
 
 -- y is hung on x along edge e, of weight w, if that lowers its label
@@ -47,15 +56,29 @@ pub record Relaxed (x y e w : ℕ) (p s labels : List ℕ) (r : Bool) (p' s' lab
   pub edges : s' ≡ put r s y e
   pub lowered : labels' ≡ put r labels y (at labels x + w)
 
--- the edges from i on, before j, are relaxed: r says whether a label was lowered; if none was, nothing changed, and none of these edges
--- can lower one
-pub record Lowered (g : Graph) (i j : ℕ) (p s labels : List ℕ) (r : Bool) (p' s' labels' : List ℕ) : Type 0 where
-  pub labelled : Labelled g p' s' labels'
+-- edge e is relaxed: r says whether a label was lowered; if not, nothing changed, and the edge can lower none
+pub record Lowered (g : Graph) (root e : ℕ) (p s labels : List ℕ) (r : Bool) (p' s' labels' : List ℕ) : Type 0 where
+  pub labelled : Labelled g root p' s' labels'
   pub less : sum (g .n) (at labels') + pick r 1 ≤ sum (g .n) (at labels)
-  pub same : r ≡ false → (p' ≡ p) × ((s' ≡ s) × (labels' ≡ labels))
-  pub closed : r ≡ false → (e : ℕ) → i ≤ e → e < j → Within g (at labels') e
+  pub same : r ≡ false → labels' ≡ labels
+  pub closed : r ≡ false → Within g (at labels') e
 
--- the same of a graph with these edges, whatever the number of its vertices
-abbrev pub Lowers : (a b lengths : List ℕ) (i j : ℕ) (p s labels : List ℕ) (r : Bool) (p' s' labels' : List ℕ) → Type 0
-Lowers a b lengths i j p s labels r p' s' labels' =
-    (n : ℕ) → Labelled (graph n a b lengths) p s labels → Lowered (graph n a b lengths) i j p s labels r p' s' labels'
+-- the tables are labelled, from some vertex of a graph with these edges
+abbrev pub SomeLabelled : (a b lengths p s labels : List ℕ) → Type 0
+SomeLabelled a b lengths p s labels = (n : ℕ) × ((r : ℕ) × Labelled (graph n a b lengths) r p s labels)
+
+-- the same of every such graph and vertex
+abbrev pub Lowers : (a b lengths : List ℕ) (e : ℕ) (p s labels : List ℕ) (r : Bool) (p' s' labels' : List ℕ) → Type 0
+Lowers a b lengths e p s labels r p' s' labels' =
+    (n root : ℕ) → Labelled (graph n a b lengths) root p s labels → Lowered (graph n a b lengths) root e p s labels r p' s' labels'
+
+-- i is one of the `quiet` edges before e, of m that are gone through round and round
+abbrev pub Before : (m e quiet i : ℕ) → Type 0
+Before m e quiet i = (i < e → e ≤ i + quiet) × (e ≤ i → m + e ≤ i + quiet)
+
+-- the tables are labelled, and none of these edges can lower a label
+pub record Quiet (g : Graph) (root e quiet : ℕ) (p s labels : List ℕ) : Type 0 where
+  pub labelled : Labelled g root p s labels
+  pub most : quiet ≤ edges g
+  pub edge : 0 < edges g → e < edges g
+  pub closed : (i : ℕ) → i < edges g → Before (edges g) e quiet i → Within g (at labels) i

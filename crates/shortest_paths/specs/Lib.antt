@@ -1,4 +1,6 @@
 pub mod Weight
+pub mod ShortestPathTree
+pub mod ShortestPathLaws
+pub mod Checked
 pub mod Labels
 pub mod Ties
-pub mod ShortestPathTree

@@ -6,9 +6,10 @@ use mathlib.Core.List.{List}
 use lib.ListN.{length}
 use lib.Dec.{eqb, ltb}
 use Rattle.arithmetic.specs.Table.{at}
-use Rattle.graph.specs.Marks.{put}
-use Rattle.graph.specs.Graph.{graph}
-use Rattle.shortest_paths.specs.Labels.{Labelled}
+use Rattle.graph.specs.Graph.{Graph, graph}
+use Rattle.graph.specs.Accepted.{WellFormed}
+use Rattle.shortest_paths.specs.ShortestPathTree.{ShortestPathTree, Wide}
+use Rattle.shortest_paths.specs.Labels.{put}
 
 -- two measures on n vertices, of masses whose sums do not overflow
 pub record Masses (n : ℕ) (mu nu : List ℕ) : Type 0 where
@@ -37,7 +38,13 @@ pub record Settled (x y e w : ℕ) (mu nu labels p s p' s' : List ℕ) : Type 0 
   pub parents : p' ≡ put (prefers x y w mu nu labels p) p y x
   pub edges : s' ≡ put (prefers x y w mu nu labels p) s y e
 
--- labels that hold of one tree hold of the other, whatever the number of vertices
+-- the tables hold the tree of shortest paths from vertex 0 of a graph that passed checks 1 to 4
+pub record TreeHeld (g : Graph) (labels p s : List ℕ) : Type 0 where
+  pub formed : WellFormed g
+  pub wide : Wide p s labels
+  pub tree : ShortestPathTree g 0 p s labels
+
+-- with other parents they hold one still, whatever the number of vertices
 abbrev pub Keeps : (a b lengths labels p s p' s' : List ℕ) → Type 0
 Keeps a b lengths labels p s p' s' =
-    (n : ℕ) → Labelled (graph n a b lengths) p s labels → Labelled (graph n a b lengths) p' s' labels
+    (n : ℕ) → TreeHeld (graph n a b lengths) labels p s → TreeHeld (graph n a b lengths) labels p' s'

@@ -1,11 +1,16 @@
 -- What edges weigh.
-use Prim.Native.Nat.{ℕ, _+_, _*_, _≤_}
+use Prim.Native.Nat.{ℕ, _+_, _*_, _^_, _≤_}
 use Rattle.arithmetic.specs.Table.{at}
 use Rattle.graph.specs.Graph.{Graph}
 
--- what an edge of length l weighs: a path has at most 63 edges, so the lightest is a shortest one, with the fewest edges of those
+-- what an edge of length l weighs: a path of a tree has at most 63 edges, so the lightest is a shortest one, with the fewest edges of those;
+-- and every weight is positive, whatever the length
 abbrev pub weightOf : ℕ → ℕ
-weightOf l = 64 * l + 1
+weightOf l = 128 * l + 1
+
+-- stands for "not reached": more than any path of a tree weighs
+abbrev pub unreached : ℕ
+unreached = 2 ^ 30
 
 -- along edge e, either way, the label rises by at most the weight
 abbrev pub Within : Graph → (ℕ → ℕ) → ℕ → Type 0

@@ -1,40 +1,49 @@
-// The labels of the vertices: what the path from vertex 0 weighs, or more until it is found. An edge weighs 64 times its length and 1: as a path has at most 63
-// edges, the lightest path is a shortest one, with the fewest edges of those; and every weight is positive, whatever the length.
+// The labels of the vertices: what the path from the start weighs, or more until it is found. An edge weighs 128 times its length and 1: as a path of a tree has at
+// most 63 edges, the lightest path is a shortest one, with the fewest edges of those; and every weight is positive, whatever the length.
 ghost use mathlib.Core.Path.{_≡_};
-ghost use Prim.Native.Nat.{ℕ, _+_, _*_, _^_, _≤_, _<_};
+ghost use Prim.Native.Nat.{_+_, _≤_, _<_};
 ghost use lib.ListN.{length};
+ghost use Rattle.arithmetic.specs.Bools.{all};
 ghost use Rattle.arithmetic.specs.Table.{at};
-ghost use Rattle.rooted_tree.specs.Chain.{depth};
-ghost use Rattle.rooted_tree.specs.Rooted.{Rooted};
-ghost use Rattle.graph.specs.Graph.{graph};
-ghost use Rattle.tree_walks.specs.Walk.{Filled};
-ghost use Rattle.shortest_paths.specs.Weight.{weightOf};
-ghost use Rattle.shortest_paths.specs.Labels.{Labelled, CanHang, Relaxed, Lowers};
-use tree_walks::walk;
+ghost use lib.Dec.{eqb, ltb};
+ghost use mathlib.Core.Bool.{cond};
+ghost use Rattle.shortest_paths.specs.Weight.{weightOf, unreached};
+ghost use Rattle.shortest_paths.specs.Labels.{SomeLabelled, Cleared, CanHang, Relaxed, Lowers};
 
-// More than any edge weighs.
-const FAR: u32 = 1 << 22;
+// The label of a vertex that is not reached: more than any path of a tree weighs.
+const UNREACHED: u32 = 1 << 30;
 
 // What an edge of length `long` weighs.
 pub fn weight(long: u32) -> u32
     requires { ⌜ long ≤ 65535 ⌝ }
     ensures { λ r. ⌜ r ≡ weightOf long ⌝ }
 {
-    64 * long + 1
+    128 * long + 1
 }
 
-// Labels that a tree's paths do not exceed.
-pub fn first_labels(n: usize, parents: &[u32], labels: &mut [u32])
-    requires { ⌜ (n ≤ 64) × ((n ≤ length (now parents)) × (n ≤ length (now labels))) ⌝ }
-    requires tree { ⌜ Rooted n 0 (at (now parents)) ⌝ }
-    ensures { λ _. ⌜ Filled n (λ x. depth (at (now (parents .entry))) 0 n x * 2 ^ 22) (now (labels .entry)) (now (labels .exit)) ⌝ }
+// The start alone is reached.
+pub fn clear(start: usize, parents: &mut [u32], labels: &mut [u32])
+    requires { ⌜ (start < 64) × ((64 ≤ length (now parents)) × (64 ≤ length (now labels))) ⌝ }
+    ensures { λ _. ⌜ Cleared start (now (parents .entry)) (now (labels .entry)) (now (parents .exit)) (now (labels .exit)) ⌝ }
 {
-    walk::depths(n, 0, parents, labels);
-    let mut x = 0;
-    while x < n {
-        labels[x] = labels[x] * FAR;
-        x += 1;
+    for v in 0..64 {
+        parents[v] = start as u32;
+        labels[v] = UNREACHED;
     }
+    labels[start] = 0;
+}
+
+// Whether every vertex is reached.
+pub fn all_reached(n: usize, labels: &[u32]) -> bool
+    requires { ⌜ n ≤ length (now labels) ⌝ }
+    ensures { λ r. ⌜ r ≡ all n (λ v. ltb (at (now (labels .entry)) v) unreached) ⌝ }
+{
+    for v in 0..n {
+        if labels[v] >= UNREACHED {
+            return false;
+        }
+    }
+    true
 }
 
 // Hangs y on x along edge e, if that lowers its label; says whether it did.
@@ -61,8 +70,8 @@ fn relax(
     true
 }
 
-// Edge e, either way.
-fn relax_edge(
+// Edge e, either way; says whether a label was lowered.
+pub fn relax_edge(
     a: &[u32],
     b: &[u32],
     lengths: &[u32],
@@ -71,8 +80,8 @@ fn relax_edge(
     edge: &mut [u32],
     labels: &mut [u32],
 ) -> bool
-    requires { ⌜ ((n : ℕ) × Labelled (graph n (now a) (now b) (now lengths)) (now parents) (now edge) (now labels)) × (e < length (now a)) ⌝ }
-    ensures { λ r. ⌜ Lowers (now (a .entry)) (now (b .entry)) (now (lengths .entry)) e (e + 1)
+    requires { ⌜ SomeLabelled (now a) (now b) (now lengths) (now parents) (now edge) (now labels) × (e < length (now a)) ⌝ }
+    ensures { λ r. ⌜ Lowers (now (a .entry)) (now (b .entry)) (now (lengths .entry)) e
         (now (parents .entry)) (now (edge .entry)) (now (labels .entry)) r (now (parents .exit)) (now (edge .exit)) (now (labels .exit)) ⌝ }
 {
     let x = a[e] as usize;
@@ -84,26 +93,18 @@ fn relax_edge(
     relax(y, x, e, w, parents, edge, labels)
 }
 
-// Every edge once; says whether a label was lowered.
-pub fn relax_round(
-    a: &[u32],
-    b: &[u32],
-    lengths: &[u32],
-    parents: &mut [u32],
-    edge: &mut [u32],
-    labels: &mut [u32],
-) -> bool
-    requires { ⌜ ((n : ℕ) × Labelled (graph n (now a) (now b) (now lengths)) (now parents) (now edge) (now labels)) ⌝ }
-    ensures { λ r. ⌜ Lowers (now (a .entry)) (now (b .entry)) (now (lengths .entry)) 0 (length (now (a .entry)))
-        (now (parents .entry)) (now (edge .entry)) (now (labels .entry)) r (now (parents .exit)) (now (edge .exit)) (now (labels .exit)) ⌝ }
+// One edge more that lowered no label, or none.
+pub fn longer(quiet: usize, lowered: bool) -> usize
+    requires { ⌜ quiet < 512 ⌝ }
+    ensures { λ r. ⌜ r ≡ cond lowered 0 (quiet + 1) ⌝ }
 {
-    let mut changed = false;
-    let mut e = 0;
-    while e < a.len() {
-        if relax_edge(a, b, lengths, e, parents, edge, labels) {
-            changed = true;
-        }
-        e += 1;
-    }
-    changed
+    if lowered { 0 } else { quiet + 1 }
+}
+
+// The edge after e, of m, round and round.
+pub fn next(e: usize, m: usize) -> usize
+    requires { ⌜ e < 512 ⌝ }
+    ensures { λ r. ⌜ r ≡ cond (eqb (e + 1) m) 0 (e + 1) ⌝ }
+{
+    if e + 1 == m { 0 } else { e + 1 }
 }

@@ -4,8 +4,8 @@ ghost use Prim.Native.Nat.{ℕ, _<_};
 ghost use lib.ListN.{length};
 ghost use Rattle.arithmetic.specs.Table.{at};
 ghost use Rattle.graph.specs.Graph.{graph};
-ghost use Rattle.shortest_paths.specs.Labels.{Labelled, CanHang};
-ghost use Rattle.shortest_paths.specs.Ties.{Masses, moreOpposed, CanOppose, Settled, Keeps};
+ghost use Rattle.shortest_paths.specs.Labels.{CanHang};
+ghost use Rattle.shortest_paths.specs.Ties.{Masses, moreOpposed, CanOppose, TreeHeld, Settled, Keeps};
 use crate::labels;
 
 // Whether x's surplus is more opposed to y's than p's is.
@@ -57,7 +57,7 @@ fn settle_edge(
     parents: &mut [u32],
     edge: &mut [u32],
 )
-    requires { ⌜ ((n : ℕ) × (Labelled (graph n (now a) (now b) (now lengths)) (now parents) (now edge) (now labels)
+    requires { ⌜ ((n : ℕ) × (TreeHeld (graph n (now a) (now b) (now lengths)) (now labels) (now parents) (now edge)
         × Masses n (now mu) (now nu))) × (e < length (now a)) ⌝ }
     ensures { λ _. ⌜ Keeps (now (a .entry)) (now (b .entry)) (now (lengths .entry)) (now (labels .entry))
         (now (parents .entry)) (now (edge .entry)) (now (parents .exit)) (now (edge .exit)) ⌝ }
@@ -80,7 +80,7 @@ pub fn settle_ties(
     parents: &mut [u32],
     edge: &mut [u32],
 )
-    requires { ⌜ ((n : ℕ) × (Labelled (graph n (now a) (now b) (now lengths)) (now parents) (now edge) (now labels)
+    requires { ⌜ ((n : ℕ) × (TreeHeld (graph n (now a) (now b) (now lengths)) (now labels) (now parents) (now edge)
         × Masses n (now mu) (now nu))) ⌝ }
     ensures { λ _. ⌜ Keeps (now (a .entry)) (now (b .entry)) (now (lengths .entry)) (now (labels .entry))
         (now (parents .entry)) (now (edge .entry)) (now (parents .exit)) (now (edge .exit)) ⌝ }

@@ -3,8 +3,10 @@ ghost use mathlib.Core.Path.{_≡_};
 ghost use Prim.Native.Nat.{_≤_};
 ghost use lib.ListN.{length};
 ghost use Rattle.graph.specs.Graph.{graph};
-ghost use Rattle.spanning_tree.specs.Given.{given};
-ghost use Rattle.spanning_tree.specs.GivenLaws.{GivenChecked, tablesOk, roomOk};
+ghost use Rattle.shortest_paths.specs.ShortestPathTree.{Wide};
+ghost use Rattle.spanning_tree.specs.Given.{given, tablesOk, answersOk};
+ghost use Rattle.spanning_tree.specs.GivenLaws.{GivenChecked};
+use graph::edges;
 use tree_checks::checks;
 
 // paintings and parents are n long, and the answer tables are fine
@@ -24,7 +26,7 @@ fn tables_fit(n: usize, mu: &[u64], nu: &[u64], parents: &[u32], answers: bool) 
 }
 
 // checks 1 to 10; `answers` says whether the caller's answer tables pass check 2. Where nothing is refused, `above` has the length of
-// the edge from each vertex to its parent.
+// the edge from each vertex to its parent, and `first`, `edge` and `labels` hold the tree of shortest paths from vertex 0.
 pub fn given_refusal(
     n: usize,
     a: &[u32],
@@ -36,37 +38,36 @@ pub fn given_refusal(
     parents: &[u32],
     answers: bool,
     above: &mut [u32],
+    first: &mut [u32],
+    edge: &mut [u32],
+    labels: &mut [u32],
 ) -> u32
-    requires { ⌜ 64 ≤ length (now above) ⌝ }
+    requires { ⌜ (64 ≤ length (now above)) × Wide (now first) (now edge) (now labels) ⌝ }
     ensures { λ k. ⌜ GivenChecked (graph n (now (a .entry)) (now (b .entry)) (now (lengths .entry)))
-        (given (now (mu .entry)) (now (nu .entry)) root (now (parents .entry))) answers k (now (above .entry)) (now (above .exit)) ⌝ }
+        (given (now (mu .entry)) (now (nu .entry)) root (now (parents .entry))) answers k (now (above .entry)) (now (above .exit))
+        (now (first .exit)) (now (edge .exit)) (now (labels .exit)) ⌝ }
 {
-    let mut tree = [0u32; 64];
-    let mut edge = [0u32; 64];
     let tables = tables_fit(n, mu, nu, parents, answers);
-    let first = graph::check(n, a, b, lengths, tables, &mut tree, &mut edge);
-    if first != 0 {
-        return first;
+    let k = shortest_paths::check(n, a, b, lengths, tables, first, edge, labels);
+    if k != 0 {
+        return k;
     }
-    let second = checks::measures_refusal(n, mu, nu);
-    if second != 0 {
-        return second;
+    let k = checks::measures_refusal(n, mu, nu);
+    if k != 0 {
+        return k;
     }
     checks::tree_refusal(n, a, b, lengths, root, parents, above)
 }
 
-// there is room for two tables of n numbers and one of n × n. For n above 64, which check 1 refuses, the answer does not matter.
+// there is room for two tables of n numbers and one of n × n
 pub fn has_room(n: usize, first: usize, second: usize, entries: usize) -> bool
-    ensures { λ r. ⌜ (n ≤ 64 → r ≡ roomOk n first second entries) ⌝ }
+    ensures { λ r. ⌜ r ≡ answersOk n first second entries ⌝ }
 {
-    if n > 64 {
-        return false;
-    }
     if n > first {
         return false;
     }
     if n > second {
         return false;
     }
-    n * n <= entries
+    edges::square_fits(n, entries)
 }

@@ -1,13 +1,25 @@
--- Words of vertices: a vertex taken out, or put in, by its amount.
+-- Words of vertices: what is below the lowest, and a vertex taken out, or put in, by its amount.
 use mathlib.Core.Path.{_≡_}
-use Prim.Native.Nat.{ℕ, _+_, _-_, _*_, _%_, _≤_, _<_, _^_}
+use mathlib.Core.Bool.{Bool, false}
+use Prim.Native.Nat.{ℕ, zero, suc, _+_, _-_, _*_, _%_, _≤_, _<_, _^_}
 use native.Mathlib.Omega.{arith}
 use lib.Bits.{bitOr}
 use lib.Dec.{eqb, ltb}
 use borrow.Author.Tests.{ne-eqb, eq-eqb, lt-ltb, le-ltb}
+use Rattle.arithmetic.specs.Bools.{case, case≡}
 use Rattle.arithmetic.specs.Sum.{pick}
 use Rattle.arithmetic.specs.Mask.{shl-one}
+use Rattle.vertex_set.specs.Lowest.{lowest}
 use Rattle.vertex_set.specs.Words.{or-above}
+
+-- before the lowest vertex there is none
+pub lowest-before : (f : ℕ → Bool) (k i x : ℕ) → i ≤ x → x < lowest f k i → f x ≡ false
+unfolding lowest
+lowest-before f zero i x l h = absurd (omega arith)
+lowest-before f (suc k) i x l h =
+    case (f i)
+    (λ e. let g : x < i = rw e at h in absurd (omega arith))
+    (λ e. let g : x < lowest f k (suc i) = rw e at h in case≡ x i (λ q. rw q e) (λ d. lowest-before f k (suc i) x (omega arith) g))
 
 -- a vertex taken out of a word if nothing is left there
 pub without-taken : (w x left : ℕ) → x < 64 → left ≡ 0 → w - (1 * 2 ^ x) % 2 ^ 64 ≡ w - pick (eqb left 0) (2 ^ x)

@@ -20,6 +20,16 @@ pub record Walked (n r : ℕ) (p : ℕ → ℕ) (depths masks : List ℕ) : Type
   pub depths-are : (x : ℕ) → x < n → at depths x ≡ depth p r n x
   pub masks-are : (x : ℕ) → x < n → at masks x ≡ mask n (λ y. below p n y x)
 
+-- the table of subtree masks alone
+pub record SubtreeMasks (n : ℕ) (p : ℕ → ℕ) (masks : List ℕ) : Type 0 where
+  pub small : n ≤ 64
+  pub long : n ≤ length masks
+  pub are : (x : ℕ) → x < n → at masks x ≡ mask n (λ y. below p n y x)
+
+-- the vertices of depth d, as a word
+abbrev pub atDepth : ℕ → ℕ → (ℕ → ℕ) → ℕ → ℕ
+atDepth n r p d = mask n (λ x. eqb (depth p r n x) d)
+
 -- it is so of the tables that the walks up the tree fill
 pub walked : (n r : ℕ) (p : ℕ → ℕ) (d d' m m' : List ℕ) → n ≤ 64 → n ≤ length d' → n ≤ length m' → Filled n (depth p r n) d d'
     → Filled n (λ x. mask n (λ y. below p n y x)) m m' → Walked n r p d' m'

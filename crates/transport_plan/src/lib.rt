@@ -9,8 +9,10 @@ ghost use Rattle.arithmetic.specs.Table.{at, cell, tab, matrix};
 ghost use Rattle.arithmetic.specs.Mask.{bit, mask};
 ghost use Rattle.transport_plan.specs.Plan.{sends, settled, layer, layers, moves};
 ghost use Rattle.transport_plan.specs.Plan as Plan;
-ghost use Rattle.transport_plan.specs.PlanSteps.{Walked, Measures, making, positive, Held, Holds, StartedTo, positiveAt, moveAt};
+ghost use Rattle.tree_walks.specs.Walk.{Filled};
+ghost use Rattle.transport_plan.specs.PlanSteps.{Walked, SubtreeMasks, atDepth, Measures, making, positive, Held, Holds, StartedTo, positiveAt, moveAt};
 use spanning_tree::tree::Tree;
+use tree_walks::walk;
 
 // The smaller of two numbers.
 fn smaller(a: u32, b: u32) -> u32
@@ -90,13 +92,13 @@ fn settle(
     }
 }
 
-// The vertices of depth d, by rising number.
+// The vertices of depth d, given as a word, by rising number.
 fn take_layer(
     n: usize,
     d: u32,
     root: usize,
     parents: &[u32],
-    depth: &[u32],
+    vertices: u64,
     masks: &[u64],
     senders: &mut u64,
     receivers: &mut u64,
@@ -104,16 +106,30 @@ fn take_layer(
     deficit: &mut [u32; 64],
     plan: &mut [u32],
 )
-    requires { ⌜ Walked n root (at (now parents)) (now depth) (now masks)
+    requires { ⌜ SubtreeMasks n (at (now parents)) (now masks) × (vertices ≡ atDepth n root (at (now parents)) d)
         × Held n (now senders) (now receivers) (now surplus) (now deficit) (now plan) ⌝ }
     ensures { λ _. ⌜ Holds n
         (layer n root (at (now (parents .entry))) d n (making n (now (plan .entry)) (now (surplus .entry)) (now (deficit .entry))))
         (now (plan .entry)) (now (senders .exit)) (now (receivers .exit)) (now (surplus .exit)) (now (deficit .exit)) (now (plan .exit)) ⌝ }
 {
-    for x in 0..n {
-        if depth[x] == d {
-            settle(n, masks[x], senders, receivers, surplus, deficit, plan);
-        }
+    let mut left = vertices;
+    while left != 0 {
+        let x = vertex_set::lowest_vertex(n, left);
+        settle(n, masks[x], senders, receivers, surplus, deficit, plan);
+        left = left - (1u64 << x);
+    }
+}
+
+// The vertices of each depth, as words.
+fn gather_layers(n: usize, depth: &[u32], layers: &mut [u64])
+    requires { ⌜ (n ≤ 64) × (n ≤ length (now depth)) × ((x : ℕ) → x < n → at (now depth) x ≤ n) × (length (now layers) ≡ 65) ⌝ }
+    ensures { λ _. ⌜ Filled 65 (λ d. mask n (λ x. eqb (at (now (depth .entry)) x) d)) (now (layers .entry)) (now (layers .exit)) ⌝ }
+{
+    walk::clear(65, layers);
+    let mut x: usize = 0;
+    while x < n {
+        walk::mark(depth[x] as usize, x, layers);
+        x += 1;
     }
 }
 
@@ -155,6 +171,8 @@ fn take_layers(
         (layers n root (at (now (parents .entry))) n (making n (now (plan .entry)) (now (surplus .entry)) (now (deficit .entry))))
         (now (plan .entry)) (now (senders .exit)) (now (receivers .exit)) (now (surplus .exit)) (now (deficit .exit)) (now (plan .exit)) ⌝ }
 {
+    let mut vertices = [0u64; 65];
+    gather_layers(n, depth, &mut vertices);
     let depths = layer_count(n, depth);
     let mut done: u32 = 0;
     while done < depths {
@@ -165,7 +183,7 @@ fn take_layers(
             d,
             root,
             parents,
-            depth,
+            vertices[d as usize],
             masks,
             senders,
             receivers,

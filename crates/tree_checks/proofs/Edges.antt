@@ -14,7 +14,7 @@ use Rattle.arithmetic.specs.Bools.{case≡, clash, is-false, and-l, and-r, eqb-
 use Rattle.arithmetic.specs.Sum.{sum-nil, sum-step, sum-le-mul, pick, pick-le}
 use Rattle.arithmetic.specs.Table.{at}
 use Rattle.graph.specs.Graph.{Graph, edges, joins, joined, edgeLength}
-use Rattle.graph.specs.Checks.{lengthOk, marked}
+use Rattle.graph.specs.Checks.{lengthFits, marked}
 use Rattle.graph.specs.Accepted.{lists-in}
 use Rattle.graph.specs.EdgeLaws.{edge-order}
 use Rattle.tree_checks.specs.Checks.{treeEdgesOk}
@@ -68,7 +68,7 @@ pub record EdgeAccepted (g : Graph) (e : ℕ) : Type 0 where
   pub short : at (g .lengths) e ≤ 65535
 
 pub edge-accepted : (g : Graph) (e : ℕ) → EdgesAccepted g → e < edges g → EdgeAccepted g e
-unfolding lengthOk
+unfolding lengthFits
 edge-accepted g e w h =
     let l = lists-in g (w .lists) in
     let o = edge-order g (w .order) e h in
@@ -78,7 +78,7 @@ edge-accepted g e w h =
       in-lengths = omega arith;
       rises = o .0;
       low = o .1;
-      short = leb-true _ _ (and-r (ltb 0 (at (g .lengths) e)) _ (all-at (edges g) (lengthOk g) (w .size) e h));
+      short = leb-true _ _ (and-r (ltb 0 (at (g .lengths) e)) _ (all-at (edges g) (lengthFits (g .lengths)) (w .size) e h));
     }
 
 -- the two ways in which an edge joins a vertex and its parent exclude each other

@@ -1,4 +1,2 @@
 pub mod ChainWalk
 pub mod Edges
-pub mod Measures
-pub mod Refusals

@@ -2,16 +2,21 @@
 -- parents and r the root.
 use Prim.Native.Nat.{ℕ, _^_}
 use mathlib.Core.Bool.{Bool, not, _&&_, _||_}
+use mathlib.Core.List.{List, [], _∷_}
 use lib.Dec.{eqb, ltb, leb}
 use Rattle.arithmetic.specs.Bools.{all}
 use Rattle.arithmetic.specs.Sum.{sum}
+use Rattle.arithmetic.specs.Refusal.{Check, check}
 use Rattle.rooted_tree.specs.Chain.{climb}
 use Rattle.graph.specs.Graph.{Graph, joined}
-use Rattle.graph.specs.Checks.{check}
 
--- 6: "a total above 16,777,216"
-unfoldable pub totalsOk : ℕ → (ℕ → ℕ) → (ℕ → ℕ) → Bool
-totalsOk n mu nu = leb (sum n mu) (2 ^ 24) && leb (sum n nu) (2 ^ 24)
+-- 6: "a total above 16,777,216", of one painting
+unfoldable pub totalOk : ℕ → (ℕ → ℕ) → Bool
+totalOk n amounts = leb (sum n amounts) (2 ^ 24)
+
+-- and of two
+abbrev pub totalsOk : ℕ → (ℕ → ℕ) → (ℕ → ℕ) → Bool
+totalsOk n mu nu = totalOk n mu && totalOk n nu
 
 -- 7: "totals differ"
 unfoldable pub totalsEqual : ℕ → (ℕ → ℕ) → (ℕ → ℕ) → Bool
@@ -30,10 +35,10 @@ treeEdgesOk g r p = all (g .n) (λ x. eqb x r || joined g x (p x))
 unfoldable pub chainsOk : ℕ → ℕ → (ℕ → ℕ) → Bool
 chainsOk n r p = all n (λ x. eqb (climb p n x) r)
 
--- checks 6 and 7, and then `rest`
-abbrev pub measureRefusal : ℕ → (ℕ → ℕ) → (ℕ → ℕ) → ℕ → ℕ
-measureRefusal n mu nu rest = check 6 (totalsOk n mu nu) (check 7 (totalsEqual n mu nu) rest)
+-- 6 and 7
+unfoldable pub measureChecks : ℕ → (ℕ → ℕ) → (ℕ → ℕ) → List Check
+measureChecks n mu nu = check 6 (totalsOk n mu nu) ∷ check 7 (totalsEqual n mu nu) ∷ []
 
--- checks 8 to 10
-abbrev pub treeRefusal : Graph → ℕ → (ℕ → ℕ) → ℕ
-treeRefusal g r p = check 8 (parentsOk (g .n) r p) (check 9 (treeEdgesOk g r p) (check 10 (chainsOk (g .n) r p) 0))
+-- 8 to 10
+unfoldable pub treeChecks : Graph → ℕ → (ℕ → ℕ) → List Check
+treeChecks g r p = check 8 (parentsOk (g .n) r p) ∷ check 9 (treeEdgesOk g r p) ∷ check 10 (chainsOk (g .n) r p) ∷ []

@@ -1,4 +1,5 @@
 pub mod Checks
+pub mod Totals
 pub mod TreeTests
 pub mod Chains
 pub mod ParentEdges

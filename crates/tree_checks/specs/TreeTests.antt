@@ -6,14 +6,14 @@ use native.Mathlib.Omega.{arith}
 use lib.Dec.{eqb, ltb}
 use borrow.Author.Tests.{eqb-true, eq-eqb, ne-eqb, ltb-true, lt-ltb}
 use Rattle.arithmetic.specs.Bools.{case≡, clash, is-false, and-l, and-r, and-true, or-elim, or-right, or-true-l, or-true-r, eqb-self, all, all-at, all-intro}
+use Rattle.arithmetic.specs.Refusal.{refusal, testOf, numbered, every-holds}
 use Rattle.rooted_tree.specs.Chain.{climb, depth}
 use Rattle.rooted_tree.specs.Rooted.{Rooted, rooted-of-rank}
 use Rattle.graph.specs.Graph.{Graph, joined}
 use Rattle.graph.specs.SpanningTree.{SpanningTree}
 use Rattle.graph.specs.Checks.{edgesOk}
-use Rattle.graph.specs.Accepted.{check-passed}
 use Rattle.graph.specs.EdgeLaws.{joined-in}
-use Rattle.tree_checks.specs.Checks.{parentsOk, treeEdgesOk, chainsOk, treeRefusal}
+use Rattle.tree_checks.specs.Checks.{parentsOk, treeEdgesOk, chainsOk, treeChecks}
 
 -- ---- the row of each test
 
@@ -135,7 +135,8 @@ module _ (g : Graph) (r : ℕ) (p : ℕ → ℕ) (h : edgesOk g ≡ true) (t : S
   spanning-rooted = chains-rooted (g .n) r p (t .root) (t .stay) spanning-into (t .chain)
 
   -- tests 8 to 10 accept it
-  pub spanning-accepted : treeRefusal g r p ≡ 0
+  pub spanning-accepted : refusal (treeChecks g r p) ≡ 0
+  unfolding refusal treeChecks
   spanning-accepted =
       rw (
         parents-hold (g .n) r p (record {
@@ -148,30 +149,13 @@ module _ (g : Graph) (r : ℕ) (p : ℕ → ℕ) (h : edgesOk g ≡ true) (t : S
         chains-hold (g .n) r p (spanning-rooted .up),
       )
 
--- what the tree's checks accept passes each of them
-pub record Passed (g : Graph) (r : ℕ) (p : ℕ → ℕ) : Type 0 where
-  pub parents : parentsOk (g .n) r p ≡ true
-  pub edges-ok : treeEdgesOk g r p ≡ true
-  pub chains : chainsOk (g .n) r p ≡ true
+-- what tests 8 to 10 accept is a spanning tree
+module _ (g : Graph) (r : ℕ) (p : ℕ → ℕ) where
+  pub tests-spanning : parentsOk (g .n) r p ≡ true → treeEdgesOk g r p ≡ true → chainsOk (g .n) r p ≡ true → SpanningTree g r p
+  tests-spanning h k l =
+      let t = parents-say (g .n) r p h in
+      record { root = t .root; stay = t .stay; edge = edges-say g r p k; chain = λ x j. (g .n, chains-say (g .n) r p l x j) }
 
-module _ (g : Graph) (r : ℕ) (p : ℕ → ℕ) (h : treeRefusal g r p ≡ 0) where
-  pub accepted-passed : Passed g r p
-  accepted-passed =
-      let p8 = check-passed 8 (parentsOk (g .n) r p) _ (omega arith) h in
-      let p9 = check-passed 9 (treeEdgesOk g r p) _ (omega arith) (p8 .1) in
-      record { parents = p8 .0; edges-ok = p9 .0; chains = check-passed 10 (chainsOk (g .n) r p) 0 (omega arith) (p9 .1) .0 }
-
-  -- it is a spanning tree,
-  pub accepted-spanning : SpanningTree g r p
-  accepted-spanning =
-      let t = parents-say (g .n) r p (accepted-passed .parents) in
-      record {
-        root = t .root;
-        stay = t .stay;
-        edge = edges-say g r p (accepted-passed .edges-ok);
-        chain = λ x l. (g .n, chains-say (g .n) r p (accepted-passed .chains) x l);
-      }
-
-  -- and a rooted tree
-  pub accepted-rooted : Rooted (g .n) r p
-  accepted-rooted = tests-rooted (g .n) r p (accepted-passed .parents) (accepted-passed .chains)
+  pub accepted-spanning : refusal (treeChecks g r p) ≡ 0 → SpanningTree g r p
+  unfolding treeChecks testOf numbered
+  accepted-spanning h = let k = every-holds (treeChecks g r p) refl h in tests-spanning (k 8) (k 9) (k 10)

@@ -7,15 +7,16 @@ ghost use lib.ListN.{length};
 ghost use Rattle.arithmetic.specs.Bools.{all};
 ghost use Rattle.arithmetic.specs.Sum.{sum};
 ghost use Rattle.arithmetic.specs.Table.{at};
+ghost use Rattle.arithmetic.specs.Refusal.{refusal};
 ghost use Rattle.graph.specs.Graph.{graph};
 ghost use Rattle.graph.specs.Checks.{marked};
-ghost use Rattle.tree_checks.specs.Checks.{parentsOk, treeEdgesOk, measureRefusal, treeRefusal};
+ghost use Rattle.tree_checks.specs.Checks.{parentsOk, treeEdgesOk, measureChecks, treeChecks};
 ghost use Rattle.tree_walks.specs.Walk.{Filled};
 ghost use Rattle.tree_checks.specs.ParentEdges.{EdgesAccepted, Noted, Fresh, NotedTo, Lengths};
 use crate::chains;
 
 // the total of the first n amounts, or 16,777,217 where it is more than 16,777,216
-fn capped_total(n: usize, amounts: &[u64]) -> u64
+pub fn capped_total(n: usize, amounts: &[u64]) -> u64
     requires { ⌜ n ≤ length (now amounts) ⌝ }
     ensures { λ t. ⌜ t ≡ min (sum n (at (now (amounts .entry)))) (2 ^ 24 + 1) ⌝ }
 {
@@ -35,13 +36,13 @@ fn capped_total(n: usize, amounts: &[u64]) -> u64
 // checks 6 and 7
 pub fn measures_refusal(n: usize, mu: &[u64], nu: &[u64]) -> u32
     requires { ⌜ (n ≤ length (now mu)) × (n ≤ length (now nu)) ⌝ }
-    ensures { λ k. ⌜ k ≡ measureRefusal n (at (now (mu .entry))) (at (now (nu .entry))) 0 ⌝ }
+    ensures { λ k. ⌜ k ≡ refusal (measureChecks n (at (now (mu .entry))) (at (now (nu .entry)))) ⌝ }
 {
     let s = capped_total(n, mu);
-    let t = capped_total(n, nu);
     if s > 16777216 {
         return 6;
     }
+    let t = capped_total(n, nu);
     if t > 16777216 {
         return 6;
     }
@@ -180,7 +181,7 @@ pub fn tree_refusal(
 ) -> u32
     requires { ⌜ (n ≤ 64) × ((n ≤ length (now parents)) × (n ≤ length (now above))) ⌝ }
     requires graph { ⌜ EdgesAccepted (graph n (now a) (now b) (now lengths)) ⌝ }
-    ensures answer { λ k. ⌜ k ≡ treeRefusal (graph n (now (a .entry)) (now (b .entry)) (now (lengths .entry))) root (at (now (parents .entry))) ⌝ }
+    ensures answer { λ k. ⌜ k ≡ refusal (treeChecks (graph n (now (a .entry)) (now (b .entry)) (now (lengths .entry))) root (at (now (parents .entry)))) ⌝ }
     ensures table { λ k. ⌜ (k ≡ 0 → Lengths (graph n (now (a .entry)) (now (b .entry)) (now (lengths .entry))) (at (now (parents .entry)))
         (now (above .entry)) (now (above .exit))) ⌝ }
 {

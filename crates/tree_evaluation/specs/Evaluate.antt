@@ -1,21 +1,19 @@
 -- The call that evaluates a given tree ("weighing"): its refusal number, and its whole outcome.
-use Prim.Native.Nat.{ℕ, _*_}
+use Prim.Native.Nat.{ℕ}
 use mathlib.Core.Path.{_≡_}
-use mathlib.Core.Bool.{_&&_}
 use mathlib.Core.List.{List}
 use lib.ListN.{length}
-use lib.Dec.{leb}
 use lib.IntN.{ℤ}
 use Rattle.arithmetic.specs.Table.{at, tab, matrix, result, written}
 use Rattle.graph.specs.Graph.{Graph}
-use Rattle.spanning_tree.specs.Given.{Given, givenRefusal}
+use Rattle.spanning_tree.specs.Given.{Given, answersOk, givenRefusal}
 use Rattle.transport_plan.specs.Plan.{plan, moves}
 use Rattle.tree_evaluation.specs.Weigh.{imbalance, potential, treeCost}
 
 -- "weighing and judging run to 10"
 unfoldable pub evaluateRefusal : Graph → Given → List ℤ → List ℤ → List ℕ → ℕ
 evaluateRefusal g w imbalances potentials entries =
-    givenRefusal g w (leb (g .n) (length imbalances) && (leb (g .n) (length potentials) && leb (g .n * g .n) (length entries)))
+    givenRefusal g w (answersOk (g .n) (length imbalances) (length potentials) (length entries))
 
 -- the plan of the tree, its table
 abbrev pub treePlan : Graph → Given → ℕ → ℕ → ℕ

@@ -1,26 +1,24 @@
--- The call that evaluates a given tree: what its checks accept, what evaluating gives, and how the call ends.
-use Prim.Native.Nat.{ℕ, zero, suc, _*_, _≤_}
-use mathlib.Core.Path.{_≡_, refl, sym, ap, _∙_}
-use mathlib.Core.Bool.{Bool}
+-- The call that evaluates a given tree: what evaluating an accepted tree gives, and how the call ends.
+use Prim.Native.Nat.{ℕ, _*_, _≤_}
+use mathlib.Core.Path.{_≡_, sym, ap, _∙_}
 use mathlib.Core.List.{List, _++_}
 use native.Mathlib.Omega.{arith}
 use lib.IntN.{ℤ, pos, subℕ}
 use lib.ListN.{length, drop, getD}
-use Rattle.arithmetic.specs.Table.{at, tab, matrix, length-tab, length-rows, front-at}
+use Rattle.arithmetic.specs.Table.{at, tab, matrix, length-tab, length-rows, front-at, front-length, result-refused, written-refused}
 use Rattle.rooted_tree.specs.Rooted.{Rooted}
 use Rattle.rooted_tree.specs.Subtotal.{subtotal}
 use Rattle.graph.specs.Graph.{Graph, graph}
-use Rattle.graph.specs.Accepted.{vertices-in}
 use Rattle.tree_walks.specs.Walk.{Filled}
 use Rattle.spanning_tree.specs.TreeValue.{parentsHeld}
-use Rattle.spanning_tree.specs.Given.{Given}
-use Rattle.spanning_tree.specs.GivenLaws.{GivenChecked, given-passed, same-number, roomOk, room-in}
+use Rattle.spanning_tree.specs.Given.{Given, answersOk}
+use Rattle.spanning_tree.specs.GivenLaws.{GivenAccepted, GivenChecked, given-passed, given-accepted, room-in}
 use Rattle.transport_plan.specs.Plan.{plan, moves}
 use Rattle.tree_evaluation.specs.Weigh.{imbalance, potential}
 use Rattle.tree_evaluation.specs.WeighLaws.{Moderate, imbalance-moderate, costFrom, potentialFrom, imbalance-table, cost-table, potential-table}
 use Rattle.tree_evaluation.specs.EvaluateTree.{Short, LengthsTo, Evaluable, TreeEvaluated}
-use Rattle.tree_evaluation.specs.GivenTree.{given-rooted, given-short, given-evaluable, given-value, given-same}
-use Rattle.tree_evaluation.specs.Evaluate.{evaluateRefusal, treePlan, Evaluated}
+use Rattle.tree_evaluation.specs.GivenTree.{given-evaluable, given-value, given-same}
+use Rattle.tree_evaluation.specs.Evaluate.{evaluateRefusal, Evaluated}
 
 -- ---- an accepted tree
 
@@ -51,73 +49,63 @@ module _ (g : Graph) (r : ℕ) (p mu nu l : ℕ → ℕ) (lengths : LengthsTo g 
 
 -- ---- how the call ends
 
-module _ (g : Graph) (w : Given) (imbalances potentials : List ℤ) (entries : List ℕ) (answers : Bool)
-    (room : g .n ≤ 64 → answers ≡ roomOk (g .n) (length imbalances) (length potentials) (length entries)) (k : ℕ) {above above' : List ℕ}
-    (checked : GivenChecked g w answers k above above') where
-  number : k ≡ evaluateRefusal g w imbalances potentials entries
-  unfolding evaluateRefusal
-  number = checked .number ∙ same-number g w answers _ room
-
+module _ {g : Graph} {w : Given} (imbalances potentials : List ℤ) (entries : List ℕ) {k : ℕ} {above above' first edge labels : List ℕ}
+    (checked : GivenChecked g w (answersOk (g .n) (length imbalances) (length potentials) (length entries)) k above above' first edge labels) where
   pub evaluate-refused : (k ≡ 0 → ⊥) → Evaluated g w imbalances potentials entries k 0 0 imbalances potentials entries
-  evaluate-refused d =
-      elim k as (λ (k : ℕ). k ≡ evaluateRefusal g w imbalances potentials entries → (k ≡ 0 → ⊥)
-      → Evaluated g w imbalances potentials entries k 0 0 imbalances potentials entries) [
-        | zero ↦ λ e f. absurd (f refl)
-        | suc k ↦ λ e f. record { refusal = e; cost-is = refl; moves-are = refl; imbalance-is = refl; potential-is = refl; plan-is = refl }
-      ] number d
+  unfolding evaluateRefusal
+  evaluate-refused d = record {
+    refusal = checked .number;
+    cost-is = result-refused k _ d;
+    moves-are = result-refused k _ d;
+    imbalance-is = written-refused k _ imbalances d;
+    potential-is = written-refused k _ potentials d;
+    plan-is = written-refused k _ entries d;
+  }
 
-  module _ (z : k ≡ 0) where
-    few : g .n ≤ 64
-    few = vertices-in (g .n) (checked .accepted z .graph .vertices) .1
+-- nothing is refused: the tree by value; u is the room for its potential
+module _ {g : Graph} {w : Given} (imbalances : List ℤ) (u : ℕ) (entries : List ℕ) {k : ℕ} {above above' first edge labels : List ℕ}
+    (checked : GivenChecked g w (answersOk (g .n) (length imbalances) u (length entries)) k above above' first edge labels) (z : k ≡ 0)
+    {n r : ℕ} {parents : List ℕ} (held : (n ≡ g .n) × ((r ≡ w .root) × (parents ≡ parentsHeld (g .n) (w .parents)))) where
+  accepted : GivenAccepted g w
+  accepted = given-accepted checked z
 
-    rooms : (g .n ≤ length imbalances) × ((g .n ≤ length potentials) × (g .n * g .n ≤ length entries))
-    rooms = room-in (g .n) _ _ _ (sym (room few) ∙ given-passed g w answers (sym (checked .number) ∙ z) .1)
+  rooms : (g .n ≤ length imbalances) × ((g .n ≤ u) × (g .n * g .n ≤ length entries))
+  rooms = room-in (g .n) _ _ _ (given-passed g w _ (sym (checked .number) ∙ z) .1)
 
-    -- the tree by value
-    module _ {n r : ℕ} {parents : List ℕ} (held : (n ≡ g .n) × ((r ≡ w .root) × (parents ≡ parentsHeld (g .n) (w .parents)))) where
-      pub evaluable : 64 ≤ length above → Evaluable n r parents above' (w .mu) (w .nu) imbalances entries
-      evaluable long = given-evaluable checked z held long (rooms .0) (rooms .1 .1)
+  pub evaluable : 64 ≤ length above → Evaluable n r parents above' (w .mu) (w .nu) imbalances entries
+  evaluable long = given-evaluable accepted (checked .lengths z) held long (rooms .0) (rooms .1 .1)
 
-      module _ {cost moved : ℕ} {imbalances' : List ℤ} {entries' : List ℕ}
-          (promise : LengthsTo (graph n (g .lower) (g .upper) (g .lengths)) r (at parents) (at above')
-          → TreeEvaluated (graph n (g .lower) (g .upper) (g .lengths)) r (at parents) (at (w .mu)) (at (w .nu))
-          imbalances entries cost moved imbalances' entries') where
-        value : TreeEvaluated g (w .root) (at (w .parents)) (at (w .mu)) (at (w .nu)) imbalances entries cost moved imbalances' entries'
-        value = given-value checked z held promise
+  module _ {cost moved : ℕ} {imbalances' : List ℤ} {entries' : List ℕ}
+      (promise : LengthsTo (graph n (g .lower) (g .upper) (g .lengths)) r (at parents) (at above')
+      → TreeEvaluated (graph n (g .lower) (g .upper) (g .lengths)) r (at parents) (at (w .mu)) (at (w .nu))
+      imbalances entries cost moved imbalances' entries') where
+    value : TreeEvaluated g (w .root) (at (w .parents)) (at (w .mu)) (at (w .nu)) imbalances entries cost moved imbalances' entries'
+    value = given-value accepted (checked .lengths z) held promise
 
-        pub potential-asked : 64 ≤ length above → length imbalances' ≡ length imbalances
-            → ((n ≤ 64) × (n ≤ length potentials)) × (((n ≤ length above') × (n ≤ length imbalances'))
-            × (Rooted n r (at parents) × (Short n r (at above') × Moderate n imbalances')))
-        potential-asked long kept =
-            let e = evaluable long in (
-              (e .few, omega (arith, rooms .1 .0, held .0)),
-              (
-                (e .long-above, omega (arith, e .room-imbalance, kept)),
-                (
-                  given-rooted checked z held,
-                  (
-                    given-short checked z held,
-                    λ x l.
-                        rw (value .imbalance-is, front-at (g .n) (imbalance (g .n) (at (w .parents)) (at (w .mu)) (at (w .nu))) imbalances (pos 0) x (omega (arith, held .0)))
-                        (imbalance-moderate (g .n) (at (w .parents)) (at (w .mu)) (at (w .nu)) x
-                        (omega (arith, checked .accepted z .total-mu)) (omega (arith, checked .accepted z .total-nu))),
-                  ),
-                ),
-              ),
-            )
+    pub potential-asked : 64 ≤ length above
+        → ((n ≤ 64) × (n ≤ u)) × (((n ≤ length above') × (n ≤ length imbalances'))
+        × (Rooted n r (at parents) × (Short n r (at above') × Moderate n imbalances')))
+    potential-asked long =
+        let e = evaluable long in
+        let kept = ap length (value .imbalance-is) ∙ front-length (g .n) _ imbalances (rooms .0) in
+        let moderate : Moderate n imbalances'
+        = λ x l.
+        rw (value .imbalance-is, front-at (g .n) (imbalance (g .n) (at (w .parents)) (at (w .mu)) (at (w .nu))) imbalances (pos 0) x (omega (arith, held .0)))
+        (imbalance-moderate (g .n) (at (w .parents)) (at (w .mu)) (at (w .nu)) x (omega (arith, accepted .total-mu)) (omega (arith, accepted .total-nu))) in
+        ((e .few, omega (arith, rooms .1 .0, held .0)), ((e .long-above, omega (arith, e .room-imbalance, kept)), (e .tree, (e .short, moderate))))
 
-        pub evaluate-done : {potentials' : List ℤ}
-            → potentials' ≡ tab n (potentialFrom n r (at parents) (at above') (λ x. getD imbalances' x (pos 0))) ++ drop n potentials
-            → Evaluated g w imbalances potentials entries 0 cost moved imbalances' potentials' entries'
-        evaluate-done {potentials'} u =
-            let shown : potentials' ≡ tab (g .n) (potential g (w .root) (at (w .parents)) (at (w .mu)) (at (w .nu))) ++ drop (g .n) potentials
-            = potential-from g (w .root) (at (w .parents)) (at (w .mu)) (at (w .nu)) (at above') (λ x l d. checked .lengths z .each x l)
-            imbalances potentials (value .imbalance-is) (rw (held .0, held .1 .0, given-same checked z held) at u) in
-            record {
-              refusal = sym z ∙ number;
-              cost-is = value .cost-is;
-              moves-are = value .moves-are;
-              imbalance-is = rw (length-tab (g .n) (imbalance (g .n) (at (w .parents)) (at (w .mu)) (at (w .nu)))) (value .imbalance-is);
-              potential-is = rw (length-tab (g .n) (potential g (w .root) (at (w .parents)) (at (w .mu)) (at (w .nu)))) shown;
-              plan-is = rw (length-rows (g .n) (g .n) (treePlan g w)) (value .plan-is);
-            }
+    pub evaluate-done : {potentials potentials' : List ℤ} → u ≡ length potentials
+        → potentials' ≡ tab n (potentialFrom n r (at parents) (at above') (λ x. getD imbalances' x (pos 0))) ++ drop n potentials
+        → Evaluated g w imbalances potentials entries 0 cost moved imbalances' potentials' entries'
+    unfolding evaluateRefusal
+    evaluate-done {potentials} e written = record {
+      refusal = sym z ∙ (rw e at (checked .number));
+      cost-is = value .cost-is;
+      moves-are = value .moves-are;
+      imbalance-is = rw length-tab (value .imbalance-is);
+      potential-is =
+          rw length-tab
+          (potential-from g (w .root) (at (w .parents)) (at (w .mu)) (at (w .nu)) (at above') (λ x l d. checked .lengths z .each x l)
+          imbalances potentials (value .imbalance-is) (rw (held .0, held .1 .0, given-same accepted (checked .lengths z) held) at written));
+      plan-is = rw length-rows (value .plan-is);
+    }

@@ -1,7 +1,6 @@
 -- A given tree that checks 1 to 10 accept, by value, can be evaluated, and what is promised of it holds of the lists that were lent.
 use Prim.Native.Nat.{ℕ, _*_, _≤_}
 use mathlib.Core.Path.{_≡_, sym, ap, _∙_}
-use mathlib.Core.Bool.{Bool}
 use mathlib.Core.List.{List}
 use native.Mathlib.Omega.{arith}
 use lib.IntN.{ℤ}
@@ -11,18 +10,16 @@ use Rattle.rooted_tree.specs.Rooted.{Rooted}
 use Rattle.graph.specs.Graph.{Graph, graph, edgeLength}
 use Rattle.graph.specs.Accepted.{vertices-in}
 use Rattle.graph.specs.EdgeLaws.{edgeLength-most}
-use Rattle.tree_checks.specs.TreeTests.{accepted-rooted}
+use Rattle.tree_checks.specs.TreeTests.{spanning-rooted}
+use Rattle.tree_checks.specs.ParentEdges.{Lengths}
 use Rattle.spanning_tree.specs.TreeValue.{parentsHeld, held-same}
 use Rattle.spanning_tree.specs.Given.{Given}
-use Rattle.spanning_tree.specs.GivenLaws.{GivenAccepted, GivenChecked}
+use Rattle.spanning_tree.specs.GivenLaws.{GivenAccepted}
 use Rattle.tree_evaluation.specs.Weigh.{treeCost}
 use Rattle.tree_evaluation.specs.EvaluateTree.{Short, LengthsTo, Evaluable, TreeEvaluated}
 
-module _ {g : Graph} {w : Given} {answers : Bool} {k : ℕ} {above above' : List ℕ} (checked : GivenChecked g w answers k above above')
-    (z : k ≡ 0) {n r : ℕ} {parents : List ℕ} (held : (n ≡ g .n) × ((r ≡ w .root) × (parents ≡ parentsHeld (g .n) (w .parents)))) where
-  accepted : GivenAccepted g w
-  accepted = checked .accepted z
-
+module _ {g : Graph} {w : Given} (accepted : GivenAccepted g w) {above above' : List ℕ} (sized : Lengths g (at (w .parents)) above above')
+    {n r : ℕ} {parents : List ℕ} (held : (n ≡ g .n) × ((r ≡ w .root) × (parents ≡ parentsHeld (g .n) (w .parents)))) where
   few : g .n ≤ 64
   few = vertices-in (g .n) (accepted .graph .vertices) .1
 
@@ -30,12 +27,12 @@ module _ {g : Graph} {w : Given} {answers : Bool} {k : ℕ} {above above' : List
   given-same = ap at (held .1 .1) ∙ held-same (g .n) (w .parents) few (accepted .long-parents)
 
   pub given-rooted : Rooted n r (at parents)
-  given-rooted = rw (held .0, held .1 .0, given-same) (accepted-rooted g (w .root) (at (w .parents)) (accepted .tree))
+  given-rooted = rw (held .0, held .1 .0, given-same) (spanning-rooted g (w .root) (at (w .parents)) (accepted .graph .edges) (accepted .tree))
 
   pub given-short : Short n r (at above')
   given-short x l d = omega (
     arith,
-    checked .lengths z .each x (omega (arith, held .0)),
+    sized .each x (omega (arith, held .0)),
     edgeLength-most g (accepted .graph .edges) (accepted .graph .lengths) x (at (w .parents) x),
   )
 
@@ -44,7 +41,7 @@ module _ {g : Graph} {w : Given} {answers : Bool} {k : ℕ} {above above' : List
   given-evaluable long i e = record {
     few = omega (arith, few, held .0);
     tree = given-rooted;
-    long-above = omega (arith, few, held .0, checked .lengths z .size);
+    long-above = omega (arith, few, held .0, sized .size);
     short = given-short;
     measures = record {
       long-mu = omega (arith, held .0, accepted .long-mu);
@@ -59,7 +56,7 @@ module _ {g : Graph} {w : Given} {answers : Bool} {k : ℕ} {above above' : List
   lengths : LengthsTo (graph n (g .lower) (g .upper) (g .lengths)) r (at parents) (at above')
   lengths x l d =
       rw (held .0)
-      (checked .lengths z .each x (omega (arith, held .0)) ∙ ap (edgeLength g x) (sym (ap (λ (f : ℕ → ℕ). f x) given-same)))
+      (sized .each x (omega (arith, held .0)) ∙ ap (edgeLength g x) (sym (ap (λ (f : ℕ → ℕ). f x) given-same)))
 
   pub given-value : {imbalances imbalances' : List ℤ} {entries entries' : List ℕ} {cost moved : ℕ}
       → (LengthsTo (graph n (g .lower) (g .upper) (g .lengths)) r (at parents) (at above')

@@ -88,8 +88,25 @@ pub fn evaluate(
         (now (imbalance .exit)) (now (potential .exit)) (now (plan .exit)) ⌝ }
 {
     let mut above = [0u32; 64];
+    let mut first = [0u32; 64];
+    let mut edge = [0u32; 64];
+    let mut labels = [0u32; 64];
     let room = given::has_room(n, imbalance.len(), potential.len(), plan.len());
-    let k = given::given_refusal(n, a, b, lengths, mu, nu, root, parents, room, &mut above);
+    let k = given::given_refusal(
+        n,
+        a,
+        b,
+        lengths,
+        mu,
+        nu,
+        root,
+        parents,
+        room,
+        &mut above,
+        &mut first,
+        &mut edge,
+        &mut labels,
+    );
     if k != 0 {
         return Evaluation {
             refusal: k,

@@ -17,7 +17,7 @@ use Rattle.rooted_tree.specs.Chain.{below}
 use Rattle.rooted_tree.specs.Subtotal.{subtotal}
 use Rattle.tree_pivot.specs.Pivot.{Pivot}
 use Rattle.tree_pivot.specs.PathReversal.{CanPivot}
-use Rattle.tree_pivot.specs.PathWalk.{CanWalk, passed, Stored, Handed}
+use Rattle.tree_pivot.specs.PathWalk.{CanWalk, passed, Stored, Handed, Walking, walk-none, walk-first, walk-more, walk-hand, walk-kept, walk-met}
 
 -- u, raised or lowered by d
 abbrev pub shifted : Bool → ℕ → ℕ → ℕ
@@ -54,6 +54,21 @@ pub record CanShiftPath (n : ℕ) (p : List ℕ) (r from stop : ℕ) (rises : Bo
   pub walk : CanWalk n r (at p) from stop (length t)
   pub room : (x : ℕ) → x < n → passed n (at p) from stop x ≡ true → Room 64 rises d (at t x)
 
+-- the walk has come to y
+abbrev pub ShiftingPath : ℕ → List ℕ → (from stop : ℕ) → Bool → ℕ → (t u : List ℕ) → ℕ → Type 0
+ShiftingPath n p from stop rises d t u y = Walking n (at p) from stop (λ x k. k ≡ shifted rises d (at t x)) t u y
+
+module _ {n : ℕ} {p : List ℕ} {r from stop : ℕ} {rises : Bool} {d : ℕ} {t : List ℕ} (can : CanShiftPath n p r from stop rises d t)
+    {u : List ℕ} {y : ℕ} (w : ShiftingPath n p from stop rises d t u y) (go : y ≡ stop → ⊥) where
+  pub shifting-room : (y < length u) × Room 64 rises d (at u y)
+  shifting-room = (
+    omega (arith, w .low, w .stored .size, can .walk .fits),
+    rw (walk-kept (can .walk) w) (can .room y (w .low) (walk-met (can .walk) w go)),
+  )
+
+  pub shifting-more : {v : List ℕ} → v ≡ set u y (shifted rises d (at u y)) → ShiftingPath n p from stop rises d t v (at p y)
+  shifting-more e = rw e (walk-more (can .walk) w go _ (can .walk .fits) (rw (walk-kept (can .walk) w)))
+
 -- from a up to y, and not at y, each vertex has the total less the number of the vertex before it
 abbrev pub PathComplemented : ℕ → List ℕ → (a y total : ℕ) → (t u : List ℕ) → Type 0
 PathComplemented n p a y total t u = Stored n (at p) a y (λ x k. (e : ℕ) × (Handed n (at p) a t 0 x e × (k ≡ total - e))) t u
@@ -62,6 +77,29 @@ pub record CanComplementPath (n : ℕ) (p : List ℕ) (r a stop total : ℕ) (t 
   pub size : n ≤ length p
   pub walk : CanWalk n r (at p) a stop (length t)
   pub part : (x : ℕ) → x < n → passed n (at p) a stop x ≡ true → at t x ≤ total
+
+-- the walk has come to y, which is handed e
+abbrev pub ComplementingPath : ℕ → List ℕ → (a stop total : ℕ) → (t u : List ℕ) → (y e : ℕ) → Type 0
+ComplementingPath n p a stop total t u y e =
+    Walking n (at p) a stop (λ x k. (e : ℕ) × (Handed n (at p) a t 0 x e × (k ≡ total - e))) t u y × (Handed n (at p) a t 0 y e × (e ≤ total))
+
+module _ {n : ℕ} {p : List ℕ} {r a stop total : ℕ} {t : List ℕ} (can : CanComplementPath n p r a stop total t) where
+  pub complementing-none : ComplementingPath n p a stop total t t a 0
+  complementing-none = (walk-none (can .walk) _ _, (walk-first (can .walk) 0 _, omega arith))
+
+  module _ {u : List ℕ} {y e : ℕ} (w : ComplementingPath n p a stop total t u y e) where
+    pub complementing-room : (y < length u) × (e ≤ total)
+    complementing-room = (omega (arith, w .0 .low, w .0 .stored .size, can .walk .fits), w .1 .1)
+
+    pub complementing-more : (y ≡ stop → ⊥) → {k : ℕ} {v : List ℕ} → k ≡ at u y → v ≡ set u y (total - e)
+        → ComplementingPath n p a stop total t v (at p y) k
+    complementing-more go f g = rw (f, g) (
+      walk-more (can .walk) (w .0) go _ (can .walk .fits) (e, (w .1 .0, refl)),
+      (
+        walk-hand (can .walk) (w .0) go 0,
+        rw (walk-kept (can .walk) (w .0)) (can .part y (w .0 .low) (walk-met (can .walk) (w .0) go)),
+      ),
+    )
 
 -- from a up to y, and not at y, each vertex has the number of the vertex before it, and a the first
 abbrev pub PathAdvanced : ℕ → List ℕ → (a y first : ℕ) → (t u : List ℕ) → Type 0

@@ -1,6 +1,7 @@
 // The pivot of the network simplex: a subtree is cut off and hung elsewhere, and every table of the basis follows.
 ghost use mathlib.Core.Path.{_≡_};
-ghost use Prim.Native.Nat.{ℕ, _≤_};
+ghost use Prim.Native.Nat.{ℕ, _-_, _≤_, _<_};
+ghost use lib.ListN.{length, set};
 ghost use Rattle.arithmetic.specs.Table.{at};
 ghost use Rattle.graph.specs.Graph.{Graph};
 ghost use Rattle.tree_pivot.specs.PathReversal.{CanPivot, Pivoted};
@@ -15,25 +16,54 @@ fn shifted(rises: bool, d: u64, u: u64) -> u64
     if rises { u + d } else { u - d }
 }
 
-// Raises or lowers by d the number of each vertex from `from` up to `stop`, and not that of `stop`.
+// Raises or lowers the number of y by d.
+fn shift(y: usize, rises: bool, d: u64, table: &mut [u64])
+    requires { ⌜ (y < length (now table)) × Room 64 rises d (at (now table) y) ⌝ }
+    ensures { λ _. ⌜ now (table .exit) ≡ set (now (table .entry)) y (shifted rises d (at (now (table .entry)) y)) ⌝ }
+{
+    table[y] = shifted(rises, d, table[y]);
+}
+
+// Raises or lowers the numbers of each vertex from `from` up to `stop`, and not those of `stop`, in each table by its amount.
 fn shift_path(
     n: usize,
     root: usize,
     from: usize,
     stop: usize,
     rises: bool,
-    d: u64,
+    sent: u64,
+    taken: u64,
+    mask: u64,
     parents: &[u32],
-    table: &mut [u64],
+    supply: &mut [u64],
+    demand: &mut [u64],
+    masks: &mut [u64],
 )
-    requires { ⌜ CanShiftPath n (now parents) root from stop rises d (now table) ⌝ }
-    ensures { λ _. ⌜ PathShifted n (now (parents .entry)) from stop rises d (now (table .entry)) (now (table .exit)) ⌝ }
+    requires { ⌜ CanShiftPath n (now parents) root from stop rises sent (now supply)
+        × CanShiftPath n (now parents) root from stop rises taken (now demand)
+        × CanShiftPath n (now parents) root from stop rises mask (now masks) ⌝ }
+    ensures first { λ _. ⌜ PathShifted n (now (parents .entry)) from stop rises sent (now (supply .entry)) (now (supply .exit)) ⌝ }
+    ensures second { λ _. ⌜ PathShifted n (now (parents .entry)) from stop rises taken (now (demand .entry)) (now (demand .exit)) ⌝ }
+    ensures bits { λ _. ⌜ PathShifted n (now (parents .entry)) from stop rises mask (now (masks .entry)) (now (masks .exit)) ⌝ }
 {
     let mut y = from;
     while y != stop {
-        table[y] = shifted(rises, d, table[y]);
+        shift(y, rises, sent, supply);
+        shift(y, rises, taken, demand);
+        shift(y, rises, mask, masks);
         y = parents[y] as usize;
     }
+}
+
+// Gives y the total but for what it is handed, and hands on what it had.
+fn complement(y: usize, total: u64, handed: u64, table: &mut [u64]) -> u64
+    requires { ⌜ (y < length (now table)) × (handed ≤ total) ⌝ }
+    ensures value { λ r. ⌜ r ≡ at (now (table .entry)) y ⌝ }
+    ensures store { λ r. ⌜ now (table .exit) ≡ set (now (table .entry)) y (total - handed) ⌝ }
+{
+    let own = table[y];
+    table[y] = total - handed;
+    own
 }
 
 // Reverses the totals of the path from a up to `stop`: what is now below a vertex is all but what was below the one before it.
@@ -42,19 +72,29 @@ fn complement_path(
     root: usize,
     a: usize,
     stop: usize,
-    total: u64,
+    sent: u64,
+    taken: u64,
+    mask: u64,
     parents: &[u32],
-    table: &mut [u64],
+    supply: &mut [u64],
+    demand: &mut [u64],
+    masks: &mut [u64],
 )
-    requires { ⌜ CanComplementPath n (now parents) root a stop total (now table) ⌝ }
-    ensures { λ _. ⌜ PathComplemented n (now (parents .entry)) a stop total (now (table .entry)) (now (table .exit)) ⌝ }
+    requires { ⌜ CanComplementPath n (now parents) root a stop sent (now supply)
+        × CanComplementPath n (now parents) root a stop taken (now demand)
+        × CanComplementPath n (now parents) root a stop mask (now masks) ⌝ }
+    ensures first { λ _. ⌜ PathComplemented n (now (parents .entry)) a stop sent (now (supply .entry)) (now (supply .exit)) ⌝ }
+    ensures second { λ _. ⌜ PathComplemented n (now (parents .entry)) a stop taken (now (demand .entry)) (now (demand .exit)) ⌝ }
+    ensures bits { λ _. ⌜ PathComplemented n (now (parents .entry)) a stop mask (now (masks .entry)) (now (masks .exit)) ⌝ }
 {
     let mut y = a;
-    let mut handed: u64 = 0;
+    let mut more: u64 = 0;
+    let mut less: u64 = 0;
+    let mut below: u64 = 0;
     while y != stop {
-        let own = table[y];
-        table[y] = total - handed;
-        handed = own;
+        more = complement(y, sent, more, supply);
+        less = complement(y, taken, less, demand);
+        below = complement(y, mask, below, masks);
         y = parents[y] as usize;
     }
 }
@@ -116,7 +156,7 @@ fn reverse_path(
     reverse_parents(n, root, a, b, c, parents);
 }
 
-// Moves the mass of the subtree of c, in a table of subtotals, to where a hangs on b.
+// Moves what is in the subtree of c, in the tables of subtotals, to where a hangs on b.
 fn move_totals(
     n: usize,
     root: usize,
@@ -125,16 +165,62 @@ fn move_totals(
     c: usize,
     join: usize,
     parents: &[u32],
-    table: &mut [u64],
+    supply: &mut [u64],
+    demand: &mut [u64],
+    masks: &mut [u64],
 )
-    requires { ⌜ CanMoveTotals n (now parents) root a b c join (now table) ⌝ }
-    ensures { λ _. ⌜ TotalsMoved n (now (parents .entry)) root a b c (now (table .entry)) (now (table .exit)) ⌝ }
+    requires { ⌜ CanMoveTotals n (now parents) root a b c join (now supply)
+        × CanMoveTotals n (now parents) root a b c join (now demand)
+        × CanMoveTotals n (now parents) root a b c join (now masks) ⌝ }
+    ensures first { λ _. ⌜ TotalsMoved n (now (parents .entry)) root a b c (now (supply .entry)) (now (supply .exit)) ⌝ }
+    ensures second { λ _. ⌜ TotalsMoved n (now (parents .entry)) root a b c (now (demand .entry)) (now (demand .exit)) ⌝ }
+    ensures bits { λ _. ⌜ TotalsMoved n (now (parents .entry)) root a b c (now (masks .entry)) (now (masks .exit)) ⌝ }
 {
-    let total = table[c];
+    let sent = supply[c];
+    let taken = demand[c];
+    let mask = masks[c];
     let over = parents[c] as usize;
-    shift_path(n, root, over, join, false, total, parents, table);
-    shift_path(n, root, b, join, true, total, parents, table);
-    complement_path(n, root, a, over, total, parents, table);
+    shift_path(
+        n,
+        root,
+        over,
+        join,
+        false,
+        sent,
+        taken,
+        mask,
+        parents,
+        supply,
+        demand,
+        masks,
+    );
+    shift_path(
+        n,
+        root,
+        b,
+        join,
+        true,
+        sent,
+        taken,
+        mask,
+        parents,
+        supply,
+        demand,
+        masks,
+    );
+    complement_path(
+        n,
+        root,
+        a,
+        over,
+        sent,
+        taken,
+        mask,
+        parents,
+        supply,
+        demand,
+        masks,
+    );
 }
 
 // Raises or lowers the potential of each vertex of a subtree, given by its mask, by d.
@@ -184,9 +270,7 @@ pub fn pivot(
         → CheaperBasis g m v (now (parents .entry)) (now (parents .exit)) (now (above .exit)) (now (supply .exit)) (now (demand .exit)) (now (masks .exit)) (now (potential .exit))) ⌝ }
 {
     let d = excess_of(rises, a, b, long, potential);
-    move_totals(n, 0, a, b, c, join, parents, supply);
-    move_totals(n, 0, a, b, c, join, parents, demand);
-    move_totals(n, 0, a, b, c, join, parents, masks);
+    move_totals(n, 0, a, b, c, join, parents, supply, demand, masks);
     reverse_path(n, 0, a, b, c, long, parents, above);
     shift_potential(n, masks[a], rises, d, potential);
 }

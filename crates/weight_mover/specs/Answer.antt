@@ -1,5 +1,5 @@
 -- The answer to an image s, in numbers and lent tables.
-use Prim.Native.Nat.{ℕ}
+use Prim.Native.Nat.{ℕ, _*_, _≤_}
 use mathlib.Core.Path.{_≡_}
 use mathlib.Core.Bool.{Bool, false, cond}
 use mathlib.Core.List.{List}
@@ -52,6 +52,10 @@ pub record Answered (s : List ℕ) (fits : Bool) (potentials : List ℤ) (entrie
   pub potentials-are : potentials' ≡ written (r .refusal) (tab (vertexCount s) (answerPotential s u)) potentials
   pub plan-is : entries' ≡ written (r .refusal) (matrix (vertexCount s) (answerPlan s p)) entries
 
+-- a table of so many places has room for the plan, if check 1 accepts the vertices
+abbrev pub Spacious : List ℕ → ℕ → Type 0
+Spacious s places = vertexCount s ≤ 64 → vertexCount s * vertexCount s ≤ places
+
 -- ---- its parts
 
 -- "A refusal returns the number, all other results 0": the answer with the number k, a tree and its figures
@@ -77,7 +81,7 @@ pub record WeighedFront (n m : ℕ) (a b l mu nu : List ℕ) (root : ℕ) (paren
   pub told : Told k n root parents 1 cost moved r
   pub long : length imbalances ≡ 64
   pub long-potentials : length potentials ≡ 64
-  pub long-entries : length entries ≡ 4096
+  pub spacious : n * n ≤ length entries
 
 -- the best answer was found, with a table for the parents of its own
 pub record SolvedFront (n m : ℕ) (a b l mu nu : List ℕ) (potentials : List ℤ) (entries : List ℕ)
@@ -92,4 +96,4 @@ pub record SolvedFront (n m : ℕ) (a b l mu nu : List ℕ) (potentials : List �
   pub told : Told k n 0 parents' 0 cost moved r
   pub long : length parents ≡ 64
   pub long-potentials : length potentials ≡ 64
-  pub long-entries : length entries ≡ 4096
+  pub spacious : n * n ≤ length entries

@@ -1,8 +1,8 @@
 -- How the answer to an image follows from what was read, and from the weighing or the best answer.
 use Prim.Native.Nat.{ℕ, zero, suc, _*_, _≤_, _<_}
 use mathlib.Core.Path.{_≡_, refl, sym, _∙_}
-use mathlib.Core.Bool.{Bool, true, false, cond, _&&_, and-false}
-use mathlib.Core.List.{List, []}
+use mathlib.Core.Bool.{Bool, true, false, _&&_, and-false}
+use mathlib.Core.List.{List, [], _∷_, _++_, append-assoc, append-nil}
 use native.Mathlib.Nat.{mul-le-mul}
 use native.Mathlib.Omega.{arith}
 use lib.Dec.{leb}
@@ -12,34 +12,29 @@ use lib.Seq.{take-at}
 use borrow.Author.Tests.{eq-eqb, le-leb, lt-leb, leb-true, le-ltb}
 use Rattle.arithmetic.specs.Bools.{case, case<, case≡, clash}
 use Rattle.arithmetic.specs.Sum.{pick}
-use Rattle.arithmetic.specs.Table.{at, tab, matrix, result, written, length-tab, length-rows, tab-at, tab-ext, rows-ext}
-use Rattle.graph.specs.Graph.{graph}
-use Rattle.graph.specs.Checks.{verticesOk, listsOk, check, graphRefusal}
-use Rattle.graph.specs.Accepted.{vertices-in}
-use Rattle.tree_checks.specs.Checks.{measureRefusal, treeRefusal}
+use Rattle.arithmetic.specs.Table.{at, tab, result, written, length-tab, tab-at, tab-ext, rows-ext, written-refused}
+use Rattle.arithmetic.specs.Refusal.{Check, check, refusal, stops, past-all, same-after}
+use Rattle.graph.specs.Checks.{verticesOk, sizeChecks, edgeChecks, graphChecks}
+use Rattle.graph.specs.Accepted.{vertices-in, sizes-numbered}
+use Rattle.tree_checks.specs.Checks.{measureChecks}
 use Rattle.transport_plan.specs.Plan.{moves}
 use Rattle.transport_plan.specs.PlanMoves.{moves-ext}
-use Rattle.spanning_tree.specs.Given.{Given, given}
+use Rattle.spanning_tree.specs.Given.{Given, given, tablesOk, answersOk}
 use Rattle.tree_evaluation.specs.Evaluate.{evaluateRefusal, Evaluated}
 use Rattle.spanning_tree.specs.TreeValue.{parentsHeld}
 use Rattle.duality.specs.Agree.{Same, SameTree, itself, same-tree, treeCost-same, potential-same, plan-same, measures-same, tree-same, best-same}
 use Rattle.duality.specs.BestCostLaws.{best-is}
-use Rattle.optimal_transport.specs.Solve.{solveRefusal, Solved}
-use Rattle.image.specs.Image.{sizeOk, sectionsOk, layoutOk, hasTree, vertexCount, edgeCount, lowerEnd, upperEnd, edgeLengthOf, amountBefore, amountAfter, rootOf, parentOf}
-use Rattle.image.specs.Read.{Lists, roomOk, readRefusal, Read}
-use Rattle.image.specs.ReadLaws.{Accepted, accepted, image-passes}
+use Rattle.optimal_transport.specs.Solve.{measuresLong, solveRefusal, Solved}
+use Rattle.image.specs.Image.{sizeOk, sectionsOk, layoutOk, hasTree, vertexCount, edgeCount, lowerEnd, upperEnd, edgeLengthOf, amount, rootOf, parentOf}
+use Rattle.image.specs.Read.{imageChecks, Lists, roomOk, readRefusal, Read}
+use Rattle.image.specs.ReadLaws.{Accepted, accepted, images-numbered}
 use Rattle.host_record.specs.Record.{recordSize}
 use Rattle.weight_mover.specs.Run.{graphOf, answerRefusal, weighedPotential}
-use Rattle.weight_mover.specs.Answer.{answerRoot, answerParent, answerPotential, answerPlan, Answered, Told, WeighedFront, SolvedFront}
-use Rattle.weight_mover.specs.Passed.{Passed, passed}
+use Rattle.weight_mover.specs.Answer.{answerRoot, answerParent, Answered, Spacious, Told, WeighedFront, SolvedFront}
+use Rattle.weight_mover.specs.Passed.{lists-read, Passed, passed}
 use Rattle.weight_mover.specs.declared.answer.Answer.{Answer}
 
 -- ---- refusals
-
--- after a refusal a lent table is as it came
-pub lent-back : {A : Type 0} (k : ℕ) (answer lent : List A) → (k ≡ 0 → ⊥) → written k answer lent ≡ lent
-lent-back zero answer lent d = absurd (d refl)
-lent-back (suc k) answer lent d = refl
 
 no-results : (k x y : ℕ) → (k ≡ 0 → ⊥) → result k x ≡ result k y
 no-results zero x y d = absurd (d refl)
@@ -95,8 +90,8 @@ refused-answer {s} {k = k} {n = n} {parents = parents} e d t p q = record {
   given-is = rw (t .refusal) (t .given-is ∙ no-results _ _ _ d);
   cost-is = rw (t .refusal) (t .cost-is ∙ no-results _ _ _ d);
   moves-are = rw (t .refusal) (t .moves-are ∙ no-results _ _ _ d);
-  potentials-are = p ∙ rw (t .refusal) (sym (lent-back _ _ _ d));
-  plan-is = q ∙ rw (t .refusal) (sym (lent-back _ _ _ d));
+  potentials-are = p ∙ rw (t .refusal) (written-refused _ _ _ d);
+  plan-is = q ∙ rw (t .refusal) (written-refused _ _ _ d);
 }
 
 -- ---- what was read
@@ -124,37 +119,48 @@ has-room s t w v e = rw (
   within (vertexCount s) 64 (length (t .parents)) v (w .parents),
 )
 
--- a refusal of the first four checks, or of the next
-four-kept : (a b c d : Bool) (x y k : ℕ) → (d ≡ true → (x ≡ 0 → ⊥) → x ≡ y) → k ≡ check 11 a (check 12 b (check 13 c (check 1 d x)))
-    → (k ≡ 0 → ⊥) → k ≡ check 11 a (check 12 b (check 13 c (check 1 d y)))
-four-kept false b c d x y k f h n = h
-four-kept true false c d x y k f h n = h
-four-kept true true false d x y k f h n = h
-four-kept true true true false x y k f h n = h
-four-kept true true true true x y k f h n = h ∙ f refl (λ z. n (h ∙ z))
+-- the checks of an image's form
+abbrev formChecks : List ℕ → List Check
+formChecks s = check 11 (sizeOk s) ∷ check 12 (sectionsOk s) ∷ check 13 (layoutOk s) ∷ []
 
-module _ (s : List ℕ) (fits : Bool) where
-  -- an image that is not read is not answered
-  pub read-refused : {t : Lists} {k : ℕ} → Wide t → k ≡ readRefusal s t → (k ≡ 0 → ⊥) → k ≡ answerRefusal s fits
-  unfolding readRefusal answerRefusal graphRefusal listsOk
-  read-refused {t} {k} w h n =
-      four-kept (sizeOk s) (sectionsOk s) (layoutOk s) (verticesOk (vertexCount s)) _ _ k
-      (λ v d. case (leb (edgeCount s) 512)
-      (λ e. absurd (d (rw (e, has-room s t w (vertices-in (vertexCount s) v .1) (leb-true (edgeCount s) 512 e)))))
-      (λ e. rw (e, length-tab (edgeCount s) (lowerEnd s), e)))
-      h n
+-- what refuses an image in wide tables refuses it whatever the room
+refused-anyway : (s : List ℕ) (fits : Bool) {t : Lists} {k : ℕ} → Wide t → k ≡ readRefusal s t → (k ≡ 0 → ⊥) → k ≡ refusal (imageChecks s fits)
+unfolding imageChecks refusal
+refused-anyway s fits {t} {k} w h n =
+    case (verticesOk (vertexCount s))
+    (λ e. case (leb (edgeCount s) 512)
+    (λ f.
+    let room = has-room s t w (vertices-in (vertexCount s) e .1) (leb-true (edgeCount s) 512 f) in
+    let rest = check 1 (verticesOk (vertexCount s)) ∷ check 2 (leb (edgeCount s) 512 && fits) ∷ [] in
+    stops k (formChecks s) rest (rw (e, f, room) at h) n)
+    (λ f. rw f (rw f at h)))
+    (λ e. rw e (rw e at h))
 
-  -- one that is read goes on to the checks of its graph
-  pub read-goes-on : {t : Lists} → Accepted s t → answerRefusal s fits
-      ≡ graphRefusal (graphOf s) fits (measureRefusal (vertexCount s) (amountBefore s) (amountAfter s)
-      (cond (hasTree s) (treeRefusal (graphOf s) (rootOf s) (parentOf s)) 0))
-  unfolding answerRefusal
-  read-goes-on a = image-passes s _ (a .size) (a .sections) (a .layout)
+-- an image that is not read is not answered
+pub read-refused : (s : List ℕ) (fits : Bool) {t : Lists} {k : ℕ} → Wide t → k ≡ readRefusal s t → (k ≡ 0 → ⊥) → k ≡ answerRefusal s fits
+unfolding answerRefusal
+read-refused s fits {t} {k} w h n = stops k (imageChecks s fits) _ (refused-anyway s fits w h n) n
 
--- "a shorter buffer is refused 2"
-pub too-short : {s : List ℕ} {t : Lists} → Accepted s t → 2 ≡ answerRefusal s false
-unfolding graphRefusal
-too-short {s} a = sym (read-goes-on s false a ∙ rw (a .vertices, and-false (listsOk (graphOf s))))
+module _ {s : List ℕ} (a : Accepted s) where
+  image-passes : refusal (imageChecks s true) ≡ 0
+  unfolding imageChecks refusal
+  image-passes = rw (a .size, a .sections, a .layout, a .vertices, le-leb (edgeCount s) 512 (a .edges))
+
+  -- "a shorter buffer is refused 2"
+  pub too-short : 2 ≡ answerRefusal s false
+  unfolding answerRefusal imageChecks refusal
+  too-short = rw (a .size, a .sections, a .layout, a .vertices, and-false)
+
+  size-passes : refusal (sizeChecks (graphOf s) true) ≡ 0
+  unfolding sizeChecks refusal
+  size-passes = rw (a .vertices, lists-read s (a .edges))
+
+  -- an image that was read goes on to the checks of its graph after 2, and so does a call on what was read
+  goes-on-alike : (ds : List Check) → refusal (graphChecks (graphOf s) true ++ ds) ≡ refusal (imageChecks s true ++ (edgeChecks (graphOf s) ++ ds))
+  goes-on-alike ds =
+      rw append-assoc
+      (past-all (sizeChecks (graphOf s) true) (edgeChecks (graphOf s) ++ ds) (sizes-numbered (graphOf s) true) size-passes
+      ∙ sym (past-all (imageChecks s true) (edgeChecks (graphOf s) ++ ds) (images-numbered s true) image-passes))
 
 -- the first places of a table that was filled
 front : {A : Type 0} (m n : ℕ) (f : ℕ → A) (l lent : List A) → m ≡ n → l ≡ written 0 (tab n f) lent → take m l ≡ tab n f
@@ -168,11 +174,11 @@ filled-held n f l lent h =
 
 -- what was read of the vertices below n
 module _ (s : List ℕ) where
-  before : Same (vertexCount s) (at (tab (vertexCount s) (amountBefore s))) (amountBefore s)
-  before x l = tab-at (vertexCount s) (amountBefore s) 0 x l
+  before : Same (vertexCount s) (at (tab (vertexCount s) (amount s 0))) (amount s 0)
+  before x l = tab-at (vertexCount s) (amount s 0) 0 x l
 
-  after : Same (vertexCount s) (at (tab (vertexCount s) (amountAfter s))) (amountAfter s)
-  after x l = tab-at (vertexCount s) (amountAfter s) 0 x l
+  after : Same (vertexCount s) (at (tab (vertexCount s) (amount s 1))) (amount s 1)
+  after x l = tab-at (vertexCount s) (amount s 1) 0 x l
 
   up : Same (vertexCount s) (at (tab (vertexCount s) (parentOf s))) (parentOf s)
   up x l = tab-at (vertexCount s) (parentOf s) 0 x l
@@ -180,21 +186,23 @@ module _ (s : List ℕ) where
 -- the tree of the image, as it is lent
 abbrev lent : List ℕ → Given
 lent s =
-    given (tab (vertexCount s) (amountBefore s)) (tab (vertexCount s) (amountAfter s)) (rootOf s) (tab (vertexCount s) (parentOf s))
+    given (tab (vertexCount s) (amount s 0)) (tab (vertexCount s) (amount s 1)) (rootOf s) (tab (vertexCount s) (parentOf s))
 
-module _ {s : List ℕ} {t : Lists} (read : Accepted s t) where
+module _ {s : List ℕ} (read : Accepted s) where
   few : vertexCount s ≤ 64
   few = vertices-in (vertexCount s) (read .vertices) .1
 
-  room : (potentials : List ℤ) (entries : List ℕ) → length potentials ≡ 64 → length entries ≡ 4096
-      → leb (vertexCount s) (length potentials) && leb (vertexCount s * vertexCount s) (length entries) ≡ true
-  room potentials entries p e = rw (
-    le-leb (vertexCount s) (length potentials) (omega (arith, few)),
-    le-leb (vertexCount s * vertexCount s) (length entries) (omega (arith, mul-le-mul few few)),
+  room : {A B : Type 0} (first : List A) (second : List B) (entries : List ℕ) → length first ≡ 64 → length second ≡ 64
+      → vertexCount s * vertexCount s ≤ length entries → answersOk (vertexCount s) (length first) (length second) (length entries) ≡ true
+  unfolding answersOk
+  room first second entries p q e = rw (
+    le-leb (vertexCount s) (length first) (omega (arith, few)),
+    le-leb (vertexCount s) (length second) (omega (arith, few)),
+    le-leb (vertexCount s * vertexCount s) (length entries) e,
   )
 
   module _ {potentials potentials' : List ℤ} {entries entries' : List ℕ} (long-potentials : length potentials ≡ 64)
-      (long-entries : length entries ≡ 4096) {r : Answer} where
+      (spacious : vertexCount s * vertexCount s ≤ length entries) {r : Answer} where
     -- ---- the answer of a weighed tree
 
     module _ (marked : hasTree s ≡ true) {imbalances imbalances' : List ℤ} {k cost moved : ℕ} (long : length imbalances ≡ 64)
@@ -202,18 +210,18 @@ module _ {s : List ℕ} {t : Lists} (read : Accepted s t) where
         {parents : List ℕ} (held : parentsHeld (vertexCount s) parents ≡ parentsHeld (vertexCount s) (tab (vertexCount s) (parentOf s)))
         (told : Told k (vertexCount s) (rootOf s) parents 1 cost moved r) where
       weighed-number : k ≡ answerRefusal s true
-      unfolding evaluateRefusal
+      unfolding evaluateRefusal answerRefusal tablesOk
       weighed-number =
-          let tables = rw (
-            eq-eqb _ _ (length-tab (vertexCount s) (amountBefore s)),
-            eq-eqb _ _ (length-tab (vertexCount s) (amountAfter s)),
+          rw (
+            eq-eqb _ _ (length-tab (vertexCount s) (amount s 0)),
+            eq-eqb _ _ (length-tab (vertexCount s) (amount s 1)),
             eq-eqb _ _ (length-tab (vertexCount s) (parentOf s)),
-            le-leb (vertexCount s) (length imbalances) (omega (arith, few)),
-            room potentials entries long-potentials long-entries,
-            measures-same (vertexCount s) (before s) (after s),
-            tree-same (graphOf s) (rootOf s) (up s),
-          ) at (e .refusal) in
-          tables ∙ sym (read-goes-on s true read ∙ rw marked)
+            room imbalances potentials entries long long-potentials spacious,
+          ) at (e .refusal)
+          ∙ goes-on-alike read _
+          ∙ rw (marked, measures-same (vertexCount s) (before s) (after s))
+          (same-after (imageChecks s true) _ _ (same-after (edgeChecks (graphOf s)) _ _ (same-after (measureChecks (vertexCount s) (amount s 0) (amount s 1)) _ _
+          (tree-same (graphOf s) (rootOf s) (up s)))))
 
       weighed-done : k ≡ 0 → Answered s true potentials entries r potentials' entries'
       weighed-done z =
@@ -246,30 +254,29 @@ module _ {s : List ℕ} {t : Lists} (read : Accepted s t) where
       pub weighed-answer : Answered s true potentials entries r potentials' entries'
       weighed-answer =
           case≡ k 0 weighed-done
-          (λ d. refused-answer weighed-number d told (e .potential-is ∙ lent-back k _ _ d) (e .plan-is ∙ lent-back k _ _ d))
+          (λ d. refused-answer weighed-number d told (e .potential-is ∙ sym (written-refused k _ _ d)) (e .plan-is ∙ sym (written-refused k _ _ d)))
 
     -- ---- the best answer
 
     module _ (unmarked : hasTree s ≡ false) {parents parents' : List ℕ} {k cost moved : ℕ} (long : length parents ≡ 64)
-        (e : Solved (graphOf s) (tab (vertexCount s) (amountBefore s)) (tab (vertexCount s) (amountAfter s)) parents potentials entries
+        (e : Solved (graphOf s) (tab (vertexCount s) (amount s 0)) (tab (vertexCount s) (amount s 1)) parents potentials entries
         k cost moved parents' potentials' entries') (told : Told k (vertexCount s) 0 parents' 0 cost moved r) where
       solved-number : k ≡ answerRefusal s true
-      unfolding solveRefusal
+      unfolding solveRefusal answerRefusal measuresLong
       solved-number =
-          let tables = rw (
-            eq-eqb _ _ (length-tab (vertexCount s) (amountBefore s)),
-            eq-eqb _ _ (length-tab (vertexCount s) (amountAfter s)),
-            le-leb (vertexCount s) (length parents) (omega (arith, few)),
-            room potentials entries long-potentials long-entries,
-            measures-same (vertexCount s) (before s) (after s),
-          ) at (e .refusal) in
-          tables ∙ sym (read-goes-on s true read ∙ rw unmarked)
+          rw (
+            eq-eqb _ _ (length-tab (vertexCount s) (amount s 0)),
+            eq-eqb _ _ (length-tab (vertexCount s) (amount s 1)),
+            room parents potentials entries long long-potentials spacious,
+          ) at (e .refusal)
+          ∙ goes-on-alike read _
+          ∙ rw (unmarked, measures-same (vertexCount s) (before s) (after s), append-nil)
 
       solved-done : k ≡ 0 → Answered s true potentials entries r potentials' entries'
       solved-done z =
           let planned = plan-same (itself (vertexCount s) 0 (e .p)) (before s) (after s) in
           let b = best-same (before s) (after s) planned (e .best z) in
-          let cost-is = best-is (graphOf s) (amountBefore s) (amountAfter s) (passed s true (sym solved-number ∙ z) .accepted) b in
+          let cost-is = best-is (graphOf s) (amount s 0) (amount s 1) (passed s true (sym solved-number ∙ z) .accepted) b in
           let w : Told 0 (vertexCount s) 0 parents' 0 cost moved r = rw z at told in
           record {
             refusal = told .refusal ∙ solved-number;
@@ -290,7 +297,7 @@ module _ {s : List ℕ} {t : Lists} (read : Accepted s t) where
       pub solved-answer : Answered s true potentials entries r potentials' entries'
       solved-answer =
           case≡ k 0 solved-done
-          (λ d. refused-answer solved-number d told (e .potentials-are ∙ lent-back k _ _ d) (e .plan-is ∙ lent-back k _ _ d))
+          (λ d. refused-answer solved-number d told (e .potentials-are ∙ sym (written-refused k _ _ d)) (e .plan-is ∙ sym (written-refused k _ _ d)))
 
 -- ---- the answer of an image
 
@@ -301,8 +308,8 @@ module _ {s : List ℕ} {t t' : Lists} {first n m root tree : ℕ} (read : Read 
   not-read w d {fits} told = refused-answer (read-refused s fits w (read .refusal) d) d told refl refl
 
   module _ (z : first ≡ 0) where
-    was-read : Accepted s t
-    was-read = accepted s t (sym (read .refusal) ∙ z)
+    was-read : Accepted s
+    was-read = accepted s (roomOk s t) (sym (read .refusal) ∙ z) .0
 
     n-is : n ≡ vertexCount s
     n-is = rw z at (read .n-is)
@@ -315,6 +322,9 @@ module _ {s : List ℕ} {t t' : Lists} {first n m root tree : ℕ} (read : Read 
 
     pub m-most : m ≤ 512
     m-most = omega (arith, m-is, was-read .edges)
+
+    pub plan-fits : {places : ℕ} → Spacious s places → n * n ≤ places
+    plan-fits spacious = rw n-is (spacious (few was-read))
 
     -- the buffer is too short
     pub not-fitting : {room : ℕ} → room < recordSize n → {potentials : List ℤ} {entries : List ℕ} {r : Answer}
@@ -335,11 +345,11 @@ module _ {s : List ℕ} {t t' : Lists} {first n m root tree : ℕ} (read : Read 
     lengths-front : take m (t' .lengths) ≡ tab (edgeCount s) (edgeLengthOf s)
     lengths-front = front m (edgeCount s) (edgeLengthOf s) (t' .lengths) (t .lengths) m-is (rw z at (read .lengths-are))
 
-    mu-front : take n (t' .mu) ≡ tab (vertexCount s) (amountBefore s)
-    mu-front = front n (vertexCount s) (amountBefore s) (t' .mu) (t .mu) n-is (rw z at (read .mu-is))
+    mu-front : take n (t' .mu) ≡ tab (vertexCount s) (amount s 0)
+    mu-front = front n (vertexCount s) (amount s 0) (t' .mu) (t .mu) n-is (rw z at (read .mu-is))
 
-    nu-front : take n (t' .nu) ≡ tab (vertexCount s) (amountAfter s)
-    nu-front = front n (vertexCount s) (amountAfter s) (t' .nu) (t .nu) n-is (rw z at (read .nu-is))
+    nu-front : take n (t' .nu) ≡ tab (vertexCount s) (amount s 1)
+    nu-front = front n (vertexCount s) (amount s 1) (t' .nu) (t .nu) n-is (rw z at (read .nu-is))
 
     marked-is : tree ≡ pick (hasTree s) 1
     marked-is = rw z at (read .tree-is)
@@ -356,8 +366,8 @@ module _ {s : List ℕ} {t t' : Lists} {first n m root tree : ℕ} (read : Read 
           let up-front = front n (vertexCount s) (parentOf s) (t' .parents) (t .parents) n-is ps in
           let e = rw (lower-front, upper-front, lengths-front, mu-front, nu-front, up-front, n-is, root-is) at (w .evaluated) in
           rw (fitting room fits)
-          (weighed-answer was-read (w .long-potentials) (w .long-entries) marked (w .long) e (filled-held (vertexCount s) (parentOf s) (t' .parents) (t .parents) ps)
-          (rw (n-is, root-is) at (w .told)))
+          (weighed-answer was-read (w .long-potentials) (rw n-is at (w .spacious)) marked (w .long) e
+          (filled-held (vertexCount s) (parentOf s) (t' .parents) (t .parents) ps) (rw (n-is, root-is) at (w .told)))
 
       -- it has none
       pub solved-read : tree ≡ 0 → SolvedFront n m (t' .lower) (t' .upper) (t' .lengths) (t' .mu) (t' .nu) potentials entries r potentials' entries'
@@ -365,12 +375,9 @@ module _ {s : List ℕ} {t t' : Lists} {first n m root tree : ℕ} (read : Read 
       solved-read d w =
           let unmarked : hasTree s ≡ false = case (hasTree s) (λ e. absurd (let y : tree ≡ 1 = marked-is ∙ rw e in omega arith)) (λ e. e) in
           let e = rw (lower-front, upper-front, lengths-front, mu-front, nu-front, n-is) at (w .solved) in
-          rw (fitting room fits) (solved-answer was-read (w .long-potentials) (w .long-entries) unmarked (w .long) e (rw n-is at (w .told)))
+          rw (fitting room fits) (solved-answer was-read (w .long-potentials) (rw n-is at (w .spacious)) unmarked (w .long) e (rw n-is at (w .told)))
 
 -- ---- what is known of an answer that was not refused
-
-filled-long : {A : Type 0} (answer lent l : List A) → length answer ≤ length lent → l ≡ written 0 answer lent → length l ≡ length lent
-filled-long answer lent l h e = rw (e, length-append, length-drop) (omega arith)
 
 module _ {s : List ℕ} {fits : Bool} {potentials potentials' : List ℤ} {entries entries' : List ℕ} {r : Answer}
     (a : Answered s fits potentials entries r potentials' entries') (z : r .refusal ≡ 0) where
@@ -389,12 +396,10 @@ module _ {s : List ℕ} {fits : Bool} {potentials potentials' : List ℤ} {entri
   pub answer-few : (r .tree .n ≤ 64) × (r .tree .n * r .tree .n ≤ 4096)
   answer-few = let few = passes .few in rw answer-n (few, omega (arith, mul-le-mul few few))
 
+  pub plan-room : {places : ℕ} → Spacious s places → r .tree .n * r .tree .n ≤ places
+  plan-room spacious = rw answer-n (spacious (passes .few))
+
   pub potentials-long : length potentials ≡ 64 → length potentials' ≡ 64
   potentials-long h =
       let few = passes .few in
-      filled-long (tab (vertexCount s) (answerPotential s (a .u))) potentials potentials' (rw length-tab (omega arith)) (rw z at (a .potentials-are)) ∙ h
-
-  pub plan-long : length entries ≡ 4096 → length entries' ≡ 4096
-  plan-long h =
-      let few = passes .few in
-      filled-long (matrix (vertexCount s) (answerPlan s (a .p))) entries entries' (rw length-rows (omega (arith, mul-le-mul few few))) (rw z at (a .plan-is)) ∙ h
+      rw (rw z at (a .potentials-are), length-append, length-drop, length-tab) (omega arith)

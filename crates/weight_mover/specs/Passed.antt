@@ -3,39 +3,60 @@ use Prim.Native.Nat.{ℕ, _≤_, _<_}
 use mathlib.Core.Path.{_≡_, refl}
 use mathlib.Core.Bool.{Bool, true}
 use mathlib.Core.List.{List}
-use native.Mathlib.Omega.{arith}
-use Rattle.arithmetic.specs.Bools.{case}
-use Rattle.graph.specs.Accepted.{Accepted, vertices-in, check-passed, not-refused}
-use Rattle.tree_checks.specs.Checks.{totalsOk, totalsEqual, parentsOk}
+use borrow.Author.Tests.{le-leb}
+use Rattle.arithmetic.specs.Bools.{case, eqb-self}
+use Rattle.arithmetic.specs.Sum.{sum}
+use Rattle.arithmetic.specs.Table.{length-tab}
+use Rattle.arithmetic.specs.Refusal.{testOf, numbered, every-holds, both-pass}
+use Rattle.graph.specs.Checks.{listsFit, listsOk, edgeChecks}
+use Rattle.graph.specs.Accepted.{Accepted, vertices-in}
+use Rattle.tree_checks.specs.Checks.{measureChecks, treeChecks}
+use Rattle.tree_checks.specs.Totals.{equal-in}
 use Rattle.duality.specs.Agree.{parents-into}
-use Rattle.image.specs.Image.{hasTree, vertexCount, amountBefore, amountAfter, rootOf, parentOf}
-use Rattle.image.specs.ReadLaws.{image-passed}
+use Rattle.image.specs.Image.{hasTree, vertexCount, edgeCount, lowerEnd, upperEnd, edgeLengthOf, amount, rootOf, parentOf}
+use Rattle.image.specs.Read.{imageChecks}
+use Rattle.image.specs.ReadLaws.{accepted, images-numbered}
 use Rattle.weight_mover.specs.Run.{graphOf, answerRefusal}
 use Rattle.weight_mover.specs.Answer.{answerRoot}
+
+-- the lists of an image's graph have the lengths that check 2 asks for
+pub lists-read : (s : List ℕ) → edgeCount s ≤ 512 → listsOk (graphOf s) ≡ true
+unfolding listsFit
+lists-read s h = rw (
+  length-tab (edgeCount s) (lowerEnd s),
+  length-tab (edgeCount s) (upperEnd s),
+  length-tab (edgeCount s) (edgeLengthOf s),
+  le-leb (edgeCount s) 512 h,
+  eqb-self (edgeCount s),
+)
 
 pub record Passed (s : List ℕ) (fits : Bool) : Type 0 where
   pub fitting : fits ≡ true
   pub accepted : Accepted (graphOf s)
   pub few : vertexCount s ≤ 64
+  pub same : sum (vertexCount s) (amount s 0) ≡ sum (vertexCount s) (amount s 1)
   -- check 8
   pub root : answerRoot s < vertexCount s
   pub parents : hasTree s ≡ true → (x : ℕ) → x < vertexCount s → parentOf s x < vertexCount s
 
 pub passed : (s : List ℕ) (fits : Bool) → answerRefusal s fits ≡ 0 → Passed s fits
-unfolding answerRefusal
+unfolding answerRefusal edgeChecks measureChecks treeChecks testOf numbered
 passed s fits h =
-    let g = not-refused (graphOf s) fits _ (image-passed s _ h .1 .1 .1) in
-    let v = vertices-in (vertexCount s) (g .0 .vertices) in
-    let six = check-passed 6 (totalsOk (vertexCount s) (amountBefore s) (amountAfter s)) _ (omega arith) (g .1 .1) in
-    let seven = check-passed 7 (totalsEqual (vertexCount s) (amountBefore s) (amountAfter s)) _ (omega arith) (six .1) in
+    let image = both-pass (imageChecks s fits) _ (images-numbered s fits) h in
+    let read = accepted s fits (image .0) in
+    let graph = both-pass (edgeChecks (graphOf s)) _ refl (image .1) in
+    let k = every-holds (edgeChecks (graphOf s)) refl (graph .0) in
+    let measures = both-pass (measureChecks (vertexCount s) (amount s 0) (amount s 1)) _ refl (graph .1) in
+    let v = vertices-in (vertexCount s) (read .0 .vertices) in
     let tree : hasTree s ≡ true → (rootOf s < vertexCount s) × ((x : ℕ) → x < vertexCount s → parentOf s x < vertexCount s)
     = λ e.
-    let eight = check-passed 8 (parentsOk (vertexCount s) (rootOf s) (parentOf s)) _ (omega arith) (rw e at (seven .1)) in
-    parents-into (graphOf s) (rootOf s) (λ x l. refl) (eight .0) in
+    let eight = every-holds (treeChecks (graphOf s) (rootOf s) (parentOf s)) refl (rw e at (measures .1)) 8 in
+    parents-into (graphOf s) (rootOf s) (λ x l. refl) eight in
     record {
-      fitting = g .1 .0;
-      accepted = g .0;
+      fitting = read .1;
+      accepted = record { vertices = read .0 .vertices; lists = lists-read s (read .0 .edges); edges = k 3; lengths = k 4; connected = k 5 };
       few = v .1;
+      same = equal-in (vertexCount s) (amount s 0) (amount s 1) (every-holds (measureChecks (vertexCount s) (amount s 0) (amount s 1)) refl (measures .0) 7);
       root = case (hasTree s) (λ e. rw e (tree e .0)) (λ e. rw e (v .0));
       parents = λ e. tree e .1;
     }

@@ -2,20 +2,21 @@
 use Prim.Native.Nat.{ℕ}
 use mathlib.Core.Path.{_≡_}
 use mathlib.Core.Bool.{Bool, false, cond}
-use mathlib.Core.List.{List}
+use mathlib.Core.List.{List, [], _++_}
 use lib.ListN.{length}
 use lib.Dec.{leb}
 use lib.IntN.{ℤ}
+use Rattle.arithmetic.specs.Refusal.{Check, refusal}
 use Rattle.arithmetic.specs.Table.{at, tab, matrix, written}
 use Rattle.graph.specs.Graph.{Graph, graph}
-use Rattle.graph.specs.Checks.{graphRefusal}
-use Rattle.tree_checks.specs.Checks.{measureRefusal, treeRefusal}
+use Rattle.graph.specs.Checks.{edgeChecks}
+use Rattle.tree_checks.specs.Checks.{measureChecks, treeChecks}
 use Rattle.tree_evaluation.specs.Weigh.{potential, treeCost}
 use Rattle.transport_plan.specs.Plan.{plan, moves}
 use Rattle.duality.specs.Best.{Best}
 use Rattle.duality.specs.BestCost.{bestCost}
-use Rattle.image.specs.Image.{hasTree, vertexCount, edgeCount, lowerEnd, upperEnd, edgeLengthOf, amountBefore, amountAfter, rootOf, parentOf}
-use Rattle.image.specs.Read.{imageRefusal}
+use Rattle.image.specs.Image.{hasTree, vertexCount, edgeCount, lowerEnd, upperEnd, edgeLengthOf, amount, rootOf, parentOf}
+use Rattle.image.specs.Read.{imageChecks}
 use Rattle.host_record.specs.Record.{recordBytes, recordSize}
 
 -- the graph of an image
@@ -25,11 +26,14 @@ graphOf s =
 
 -- "An image with a tree is weighed, one without gets the best answer": the checks of the one or the other; `room` is what is said of the
 -- buffer under 2
+abbrev pub answerChecks : List ℕ → Bool → List Check
+answerChecks s room =
+    imageChecks s room ++ (edgeChecks (graphOf s)
+    ++ (measureChecks (vertexCount s) (amount s 0) (amount s 1)
+    ++ cond (hasTree s) (treeChecks (graphOf s) (rootOf s) (parentOf s)) []))
+
 unfoldable pub answerRefusal : List ℕ → Bool → ℕ
-answerRefusal s room =
-    imageRefusal s (graphRefusal (graphOf s) room
-    (measureRefusal (vertexCount s) (amountBefore s) (amountAfter s)
-    (cond (hasTree s) (treeRefusal (graphOf s) (rootOf s) (parentOf s)) 0)))
+answerRefusal s room = refusal (answerChecks s room)
 
 -- "a shorter buffer is refused 2"
 abbrev pub runRefusal : List ℕ → List ℕ → ℕ
@@ -41,7 +45,7 @@ entryOf n t c = at (matrix n t) c
 
 -- the plan by the rule, from a tree with its root and parents
 abbrev pub imagePlan : List ℕ → ℕ → (ℕ → ℕ) → ℕ → ℕ → ℕ
-imagePlan s root parent = plan (vertexCount s) root parent (amountBefore s) (amountAfter s)
+imagePlan s root parent = plan (vertexCount s) root parent (amount s 0) (amount s 1)
 
 -- its record
 abbrev pub planRecord : List ℕ → ℕ → ℕ → (ℕ → ℕ) → (ℕ → ℤ) → List ℕ
@@ -51,10 +55,10 @@ planRecord s cost root parent u =
 
 -- the cost and the potential of the tree of an image
 abbrev pub weighedCost : List ℕ → ℕ
-weighedCost s = treeCost (graphOf s) (rootOf s) (parentOf s) (amountBefore s) (amountAfter s)
+weighedCost s = treeCost (graphOf s) (rootOf s) (parentOf s) (amount s 0) (amount s 1)
 
 abbrev pub weighedPotential : List ℕ → ℕ → ℤ
-weighedPotential s = potential (graphOf s) (rootOf s) (parentOf s) (amountBefore s) (amountAfter s)
+weighedPotential s = potential (graphOf s) (rootOf s) (parentOf s) (amount s 0) (amount s 1)
 
 -- the record of an image with a tree
 unfoldable pub weighedRecord : List ℕ → List ℕ
@@ -62,11 +66,11 @@ weighedRecord s = planRecord s (weighedCost s) (rootOf s) (parentOf s) (weighedP
 
 -- the best cost of an image
 abbrev pub imageBestCost : List ℕ → ℕ
-imageBestCost s = bestCost (graphOf s) (amountBefore s) (amountAfter s)
+imageBestCost s = bestCost (graphOf s) (amount s 0) (amount s 1)
 
 -- demand 3 of a tree with root 0 and the parents p, its plan, a potential u and the best cost
 abbrev pub BestAnswer : List ℕ → (ℕ → ℕ) → (ℕ → ℤ) → Type 0
-BestAnswer s p u = Best (graphOf s) (amountBefore s) (amountAfter s) p (imagePlan s 0 p) u (imageBestCost s)
+BestAnswer s p u = Best (graphOf s) (amount s 0) (amount s 1) p (imagePlan s 0 p) u (imageBestCost s)
 
 -- the record of this answer
 abbrev pub bestRecord : List ℕ → (ℕ → ℕ) → (ℕ → ℤ) → List ℕ

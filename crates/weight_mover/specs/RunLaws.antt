@@ -8,14 +8,14 @@ use lib.IntN.{ℤ, pos}
 use lib.ListN.{length, getD, drop, List·getD-append}
 use borrow.Author.Tests.{leb-true, lt-ltb}
 use Rattle.arithmetic.specs.Bools.{case}
-use Rattle.arithmetic.specs.Table.{at, tab, matrix, written, length-tab, length-rows, tab-at}
+use Rattle.arithmetic.specs.Table.{at, tab, matrix, written, length-tab, length-rows, tab-at, written-refused}
 use Rattle.spanning_tree.specs.TreeValue.{parentsHeld}
 use Rattle.image.specs.Image.{hasTree, vertexCount}
 use Rattle.host_record.specs.Record.{recordBytes, recordSize}
 use Rattle.host_record.specs.RecordLaws.{length-record, record-ext}
 use Rattle.weight_mover.specs.Run.{entryOf, planRecord, weighedRecord, answerRecord, Ran}
 use Rattle.weight_mover.specs.Answer.{answerCost, answerRoot, answerParent, answerPotential, answerPlan, Answered}
-use Rattle.weight_mover.specs.AnswerLaws.{lent-back, passes, answer-n, answer-root}
+use Rattle.weight_mover.specs.AnswerLaws.{passes, answer-n, answer-root}
 use Rattle.weight_mover.specs.declared.answer.Answer.{Answer}
 
 -- the record of the answer, by its parts
@@ -49,7 +49,7 @@ module _ {s : List ℕ} (buffer : List ℕ) {potentials potentials' : List ℤ} 
     p = a .p;
     u = a .u;
     best = a .best;
-    buffer-is = sym (lent-back _ _ _ d);
+    buffer-is = written-refused _ _ _ d;
   }
 
   module _ (z : r .refusal ≡ 0) where

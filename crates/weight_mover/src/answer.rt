@@ -1,12 +1,12 @@
 // The answer to an image: read, weighed or solved, into lent tables.
 ghost use mathlib.Core.Path.{_≡_};
 ghost use mathlib.Core.List.{[]};
-ghost use Prim.Native.Nat.{_≤_};
+ghost use Prim.Native.Nat.{_*_, _≤_};
 ghost use lib.ListN.{length};
 ghost use lib.Dec.{leb};
 ghost use Rattle.image.specs.Image.{vertexCount};
 ghost use Rattle.host_record.specs.Record.{recordSize};
-ghost use Rattle.weight_mover.specs.Answer.{Told, WeighedFront, SolvedFront, Answered};
+ghost use Rattle.weight_mover.specs.Answer.{Told, WeighedFront, SolvedFront, Spacious, Answered};
 use image::read;
 use optimal_transport::solve;
 use spanning_tree::tree::Tree;
@@ -58,10 +58,10 @@ fn weigh_front(
     root: usize,
     parents: &[u32],
     potential: &mut [i32; 64],
-    plan: &mut [u32; 4096],
+    plan: &mut [u32],
 ) -> Answer
     requires { ⌜ (m ≤ length (now a)) × (m ≤ length (now b)) × (m ≤ length (now lengths))
-        × (n ≤ length (now mu)) × (n ≤ length (now nu)) × (n ≤ length (now parents)) ⌝ }
+        × (n ≤ length (now mu)) × (n ≤ length (now nu)) × (n ≤ length (now parents)) × (n * n ≤ length (now plan)) ⌝ }
     ensures { λ r. ⌜ WeighedFront n m (now (a .entry)) (now (b .entry)) (now (lengths .entry)) (now (mu .entry)) (now (nu .entry))
         root (now (parents .entry)) (now (potential .entry)) (now (plan .entry)) r (now (potential .exit)) (now (plan .exit)) ⌝ }
 {
@@ -101,10 +101,10 @@ fn solve_front(
     mu: &[u64],
     nu: &[u64],
     potential: &mut [i32; 64],
-    plan: &mut [u32; 4096],
+    plan: &mut [u32],
 ) -> Answer
     requires { ⌜ (m ≤ length (now a)) × (m ≤ length (now b)) × (m ≤ length (now lengths))
-        × (n ≤ length (now mu)) × (n ≤ length (now nu)) ⌝ }
+        × (n ≤ length (now mu)) × (n ≤ length (now nu)) × (n * n ≤ length (now plan)) ⌝ }
     ensures { λ r. ⌜ SolvedFront n m (now (a .entry)) (now (b .entry)) (now (lengths .entry)) (now (mu .entry)) (now (nu .entry))
         (now (potential .entry)) (now (plan .entry)) r (now (potential .exit)) (now (plan .exit)) ⌝ }
 {
@@ -137,8 +137,9 @@ pub fn answer_image(
     image: &[u8],
     room: usize,
     potential: &mut [i32; 64],
-    plan: &mut [u32; 4096],
+    plan: &mut [u32],
 ) -> Answer
+    requires { ⌜ Spacious (now image) (length (now plan)) ⌝ }
     ensures { λ r. ⌜ Answered (now (image .entry)) (leb (recordSize (vertexCount (now (image .entry)))) room)
         (now (potential .entry)) (now (plan .entry)) r (now (potential .exit)) (now (plan .exit)) ⌝ }
 {

@@ -9,21 +9,22 @@ use lib.IntN.{ℤ, pos, negsuc}
 use borrow.Author.Tests.{eqb-true, leb-true}
 use Rattle.arithmetic.specs.Bools.{and-l, and-r, clash, all, all-at}
 use Rattle.arithmetic.specs.Sum.{sum}
+use Rattle.arithmetic.specs.Refusal.{refusal}
 use Rattle.arithmetic.specs.Table.{at}
 use Rattle.graph.specs.Graph.{Graph, edges}
-use Rattle.graph.specs.Accepted.{Accepted, not-refused}
-use Rattle.tree_checks.specs.Checks.{totalsOk, totalsEqual, treeRefusal}
+use Rattle.graph.specs.Accepted.{Accepted}
+use Rattle.tree_checks.specs.Checks.{treeChecks}
 use Rattle.tree_checks.specs.TreeTests.{accepted-spanning}
 use Rattle.tree_evaluation.specs.Weigh.{treeCost}
 use Rattle.spanning_tree.specs.Given.{givenRefusal}
-use Rattle.spanning_tree.specs.GivenLaws.{given-passed, two-passed, equal-in}
+use Rattle.spanning_tree.specs.GivenLaws.{given-passed}
 use Rattle.transport_plan.specs.Plan.{plan}
 use Rattle.duality.specs.Best.{Best}
 use Rattle.duality.specs.BestCost.{bestCost}
 use Rattle.duality.specs.BestLaws.{IntegerCertificate, certified-best}
-use Rattle.image.specs.Image.{vertexCount, amountBefore, amountAfter}
-use Rattle.image.specs.ReadLaws.{image-passed}
-use Rattle.weight_mover.specs.Run.{graphOf, answerRefusal, runRefusal, BestAnswer}
+use Rattle.image.specs.Image.{amount}
+use Rattle.weight_mover.specs.Run.{graphOf, runRefusal, BestAnswer}
+use Rattle.weight_mover.specs.Passed.{passed}
 use Rattle.worked_cases.specs.Figures.{Case, Bytes, Certificate, said, sameℤ, potentialOf, withinEdge, certifies, certified, holds, reads, room, every}
 use Rattle.worked_cases.specs.Cases.{cases, images}
 use Rattle.worked_cases.specs.Theorem.{cases-hold}
@@ -52,16 +53,16 @@ module _ (g : Graph) (mu nu : ℕ → ℕ) (k : Certificate) where
   cost-is : certifies g mu nu k ≡ true → treeCost g 0 (at (k .parents)) mu nu ≡ k .cost
   unfolding certifies
   cost-is h =
-      eqb-true _ _ (and-l (eqb (treeCost g 0 (at (k .parents)) mu nu) (k .cost)) _ (and-r (eqb (treeRefusal g 0 (at (k .parents))) 0) _ h))
+      eqb-true _ _ (and-l (eqb (treeCost g 0 (at (k .parents)) mu nu) (k .cost)) _ (and-r (eqb (refusal (treeChecks g 0 (at (k .parents)))) 0) _ h))
 
   certificate : certifies g mu nu k ≡ true → IntegerCertificate g mu nu (at (k .parents)) (potentialOf k)
   unfolding certifies
   certificate h =
-      let h2 = and-r (eqb (treeRefusal g 0 (at (k .parents))) 0) _ h in
+      let h2 = and-r (eqb (refusal (treeChecks g 0 (at (k .parents)))) 0) _ h in
       let h3 = and-r (eqb (treeCost g 0 (at (k .parents)) mu nu) (k .cost)) _ h2 in
       let h4 = and-r (sameℤ (potentialOf k 0) (pos 0)) _ h3 in
       record {
-        spanning = accepted-spanning g 0 (at (k .parents)) (eqb-true _ _ (and-l (eqb (treeRefusal g 0 (at (k .parents))) 0) _ h));
+        spanning = accepted-spanning g 0 (at (k .parents)) (eqb-true _ _ (and-l (eqb (refusal (treeChecks g 0 (at (k .parents)))) 0) _ h));
         zero-at-0 = sameℤ-eq _ _ (and-l (sameℤ (potentialOf k 0) (pos 0)) _ h3);
         within = λ e l. leb-true _ _ (all-at (edges g) (withinEdge g k) (and-l (all (edges g) (withinEdge g k)) _ h4) e l);
         weighs = sameℤ-eq _ _ (and-r (all (edges g) (withinEdge g k)) _ h4) ∙ ap pos (sym (cost-is h));
@@ -94,29 +95,18 @@ case-best c h k e =
     let a = given-passed g (c .lent) true (number ∙ figure-number g mu nu k (c .refusal) best) .0 in
     figure-best g mu nu k (c .refusal) best (a .graph) (a .same-total)
 
--- checks 1 to 7 of an image that is answered
-answered : (s : List ℕ) (fits : Bool) → answerRefusal s fits ≡ 0
-    → Accepted (graphOf s) × (sum (vertexCount s) (amountBefore s) ≡ sum (vertexCount s) (amountAfter s))
-unfolding answerRefusal
-answered s fits h =
-    let a = not-refused (graphOf s) fits _ (image-passed s _ h .1 .1 .1) in
-    let mu = amountBefore s in
-    let nu = amountAfter s in
-    let m = two-passed (totalsOk (vertexCount s) mu nu) (totalsEqual (vertexCount s) mu nu) _ (a .1 .1) in
-    (a .0, equal-in (vertexCount s) mu nu (m .1 .0))
-
 image-best : (b : Bytes) → reads b ≡ true → (k : Certificate) → b .best ≡ said k → BestAnswer (b .image) (at (k .parents)) (potentialOf k)
 unfolding reads
 image-best b h k e =
     let s = b .image in
     let g = graphOf s in
-    let mu = amountBefore s in
-    let nu = amountAfter s in
+    let mu = amount s 0 in
+    let nu = amount s 1 in
     let number = eqb-true _ _ (and-l (eqb (runRefusal s (room 0)) (b .refusal)) _ h) in
     let rest = and-r (eqb (runRefusal s (room 0)) (b .refusal)) _ h in
     let best : certified g mu nu (b .refusal) (said k) ≡ true = rw e at (and-l (certified g mu nu (b .refusal) (b .best)) _ rest) in
-    let a = answered s _ (number ∙ figure-number g mu nu k (b .refusal) best) in
-    rw (figure-cost g mu nu k (b .refusal) best) (figure-best g mu nu k (b .refusal) best (a .0) (a .1))
+    let a = passed s _ (number ∙ figure-number g mu nu k (b .refusal) best) in
+    rw (figure-cost g mu nu k (b .refusal) best) (figure-best g mu nu k (b .refusal) best (a .accepted) (a .same))
 
 -- every case of the table that has a best figure: no plan and no spanning tree costs less than its certificate, and all of demand 3
 pub cases-best : {c : Case} → List·Memᴰ c cases → {k : Certificate} → c .best ≡ said k

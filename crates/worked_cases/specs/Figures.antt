@@ -8,9 +8,10 @@ use lib.IntN.{ℤ, pos, negsuc, natAbs, _-ℤ_, _*ℤ_}
 use Rattle.arithmetic.specs.Bools.{all}
 use Rattle.arithmetic.specs.Sum.{pick}
 use Rattle.arithmetic.specs.Integer.{sumℤ}
+use Rattle.arithmetic.specs.Refusal.{refusal}
 use Rattle.arithmetic.specs.Table.{at, tab, matrix}
 use Rattle.graph.specs.Graph.{Graph, edges}
-use Rattle.tree_checks.specs.Checks.{treeRefusal}
+use Rattle.tree_checks.specs.Checks.{treeChecks}
 use Rattle.tree_evaluation.specs.Weigh.{difference, imbalance, potential, treeCost}
 use Rattle.transport_plan.specs.Plan.{moves}
 use Rattle.spanning_tree.specs.Given.{Given, givenRefusal}
@@ -18,7 +19,7 @@ use Rattle.tree_evaluation.specs.Evaluate.{treePlan}
 use Rattle.duality.specs.BestCost.{bestCost}
 use Rattle.optimal_transport.specs.Solve.{solveRefusal}
 use Rattle.optimal_transport.specs.Judge.{givenCost}
-use Rattle.image.specs.Image.{amountBefore, amountAfter}
+use Rattle.image.specs.Image.{amount}
 use Rattle.image.specs.Read.{lists, readRefusal}
 use Rattle.weight_mover.specs.Run.{graphOf, runRefusal, answerRecord}
 use Rattle.listing.specs.Listing.{listing}
@@ -86,7 +87,7 @@ weight g mu nu c = sumℤ (g .n) (λ y. potentialOf c y *ℤ difference mu nu y)
 -- the certificate's tree is a spanning tree of that cost, and its potential is 0 at vertex 0, within each edge's length and weighs to it
 unfoldable pub certifies : Graph → (ℕ → ℕ) → (ℕ → ℕ) → Certificate → Bool
 certifies g mu nu c =
-    eqb (treeRefusal g 0 (at (c .parents))) 0 && (eqb (treeCost g 0 (at (c .parents)) mu nu) (c .cost)
+    eqb (refusal (treeChecks g 0 (at (c .parents)))) 0 && (eqb (treeCost g 0 (at (c .parents)) mu nu) (c .cost)
     && (sameℤ (potentialOf c 0) (pos 0) && (all (edges g) (withinEdge g c) && sameℤ (weight g mu nu c) (pos (c .cost)))))
 
 -- the certificate's cost is the best cost, and the case is not refused
@@ -139,7 +140,7 @@ found (said c) = c
 unfoldable pub reads : Bytes → Bool
 reads b =
     eqb (runRefusal s (room 0)) (b .refusal)
-    && (certified (graphOf s) (amountBefore s) (amountAfter s) (b .refusal) (b .best)
+    && (certified (graphOf s) (amount s 0) (amount s 1) (b .refusal) (b .best)
     && (eqb (readRefusal s (lists (room 0) (room 0) (room 0) (room 0) (room 0) (room 0))) (b .refusal)
     && (agrees (sames eqb) (answerRecord s (at (found (b .best) .parents)) (potentialOf (found (b .best)))) (b .host)
     && sames eqb (listing s) (b .listing))))

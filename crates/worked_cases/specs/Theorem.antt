@@ -8,18 +8,20 @@ use lib.IntN.{ℤ}
 use Rattle.arithmetic.specs.Bools.{all, any}
 use Rattle.arithmetic.specs.Sum.{sum}
 use Rattle.arithmetic.specs.Integer.{sumℤ}
+use Rattle.arithmetic.specs.Refusal.{refusal}
 use Rattle.arithmetic.specs.Table.{tab, rows}
 use Rattle.rooted_tree.specs.Chain.{climb, below, depth}
 use Rattle.graph.specs.Graph.{joined, edgeLength}
-use Rattle.graph.specs.Checks.{verticesOk, listsOk, edgeOk, lengthOk, reached, connected, graphRefusal}
-use Rattle.tree_checks.specs.Checks.{totalsOk, totalsEqual, parentsOk, treeEdgesOk, chainsOk}
+use Rattle.graph.specs.Checks.{verticesOk, listsFit, edgeFits, lengthFits, reached, connected, sizeChecks, edgeChecks}
+use Rattle.tree_checks.specs.Checks.{totalOk, totalsEqual, parentsOk, treeEdgesOk, chainsOk, measureChecks, treeChecks}
+use Rattle.spanning_tree.specs.Given.{tablesOk, answersOk}
 use Rattle.tree_evaluation.specs.Weigh.{imbalance, potential, treeCost}
 use Rattle.vertex_set.specs.Lowest.{lowest}
 use Rattle.transport_plan.specs.Plan.{moved, settled, layer, layers, plan, moves}
 use Rattle.duality.specs.BestCost.{least, tables, costs, bestCost}
-use Rattle.optimal_transport.specs.Solve.{solveRefusal}
-use Rattle.image.specs.Image.{sizeOk, sectionOk, layoutOk}
-use Rattle.image.specs.Read.{roomOk, readRefusal}
+use Rattle.optimal_transport.specs.Solve.{measuresLong, solveRefusal}
+use Rattle.image.specs.Image.{two, sizeOk, sectionOk, layoutOk}
+use Rattle.image.specs.Read.{imageChecks, roomOk}
 use Rattle.host_record.specs.Record.{byteOf, recordBytes}
 use Rattle.weight_mover.specs.Run.{answerRefusal, weighedRecord, answerRecord}
 use Rattle.listing.specs.Listing.{digits, entryLine, rowLines, planLines, weighedListing, listing}
@@ -27,10 +29,10 @@ use Rattle.worked_cases.specs.Figures.{sames, certifies, holds, reads, e
 use Rattle.worked_cases.specs.Cases.{image-b, cases, images}
 
 pub cases-hold : every holds cases && every reads images ≡ true
-unfolding all any sum sumℤ tab rows climb below depth joined edgeLength verticesOk listsOk edgeOk lengthOk reached connected graphRefusal totalsOk totalsEqual parentsOk treeEdgesOk chainsOk imbalance potential treeCost flatMap least tables costs bestCost solveRefusal lowest moved settled layer layers plan moves sizeOk sectionOk layoutOk roomOk readRefusal byteOf recordBytes answerRefusal weighedRecord digits entryLine rowLines planLines weighedListing listing sames certifies holds reads every cases images
+unfolding all any sum sumℤ tab rows climb below depth joined edgeLength refusal verticesOk listsFit edgeFits lengthFits reached connected sizeChecks edgeChecks totalOk totalsEqual parentsOk treeEdgesOk chainsOk measureChecks treeChecks tablesOk answersOk imbalance potential treeCost flatMap least tables costs bestCost measuresLong solveRefusal lowest moved settled layer layers plan moves two sizeOk sectionOk layoutOk roomOk imageChecks byteOf recordBytes answerRefusal weighedRecord digits entryLine rowLines planLines weighedListing listing sames certifies holds reads every cases images
 cases-hold = refl
 
 -- the record of B's image without a tree begins with the best cost, whichever tree and potential come back
 pub image-b-cost : (p : ℕ → ℕ) (u : ℕ → ℤ) → take 8 (answerRecord (image-b .image) p u) ≡ 4 ∷ 0 ∷ 0 ∷ 0 ∷ 0 ∷ 0 ∷ 0 ∷ 0 ∷ []
-unfolding all any sum sumℤ tab rows climb below joined edgeLength parentsOk treeEdgesOk chainsOk imbalance treeCost flatMap least tables costs bestCost byteOf recordBytes
+unfolding all any sum sumℤ tab rows climb below joined edgeLength refusal treeChecks parentsOk treeEdgesOk chainsOk imbalance treeCost flatMap least tables costs bestCost two byteOf recordBytes
 image-b-cost p u = refl

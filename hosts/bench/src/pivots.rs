@@ -5,6 +5,9 @@
 
 use reference::{Edge, Problem};
 
+/// The edges are looked at in blocks of so many.
+const BLOCK: usize = 64;
+
 /// A spanning tree with root 0 and what is kept of each vertex: the perturbed masses below it, the vertices below it as a word,
 /// the potential.
 struct Basis {
@@ -22,45 +25,21 @@ pub struct Ended {
     pub pivots: usize,
 }
 
-/// Parents and the edges to them, marked from vertex 0 in rounds over the edges.
-fn first_tree(problem: &Problem) -> (Vec<usize>, Vec<usize>) {
-    let (mut parents, mut edge) = (vec![usize::MAX; problem.n], vec![0; problem.n]);
-    parents[0] = 0;
-    let mut changed = true;
-    while changed {
-        changed = false;
-        for (e, &Edge { a, b, .. }) in problem.edges.iter().enumerate() {
-            for (x, y) in [(a, b), (b, a)] {
-                if parents[x] != usize::MAX && parents[y] == usize::MAX {
-                    (parents[y], edge[y]) = (x, e);
-                    changed = true;
-                    break;
-                }
-            }
-        }
-    }
-    (parents, edge)
-}
-
 /// Both ways along each edge: its number, its ends and what it weighs.
 fn ways(problem: &Problem) -> impl Iterator<Item = (usize, [(usize, usize); 2], u64)> + '_ {
     let edges = problem.edges.iter().enumerate();
     edges.map(|(e, edge)| {
         let Edge { a, b, length } = *edge;
-        (e, [(a, b), (b, a)], 64 * u64::from(length) + 1)
+        (e, [(a, b), (b, a)], 128 * u64::from(length) + 1)
     })
 }
 
 /// The tree of shortest paths from vertex 0, by rounds of relaxing the edges; then, of the parents that serve equally well, one
 /// whose surplus is most opposed.
 fn shortest_path_tree(problem: &Problem) -> (Vec<usize>, Vec<usize>) {
-    let (mut parents, mut edge) = first_tree(problem);
-    let depth = |x: usize| {
-        std::iter::successors(Some(x), |&y| Some(parents[y]))
-            .take_while(|&y| y != 0)
-            .count()
-    };
-    let mut labels: Vec<u64> = (0..problem.n).map(|x| (depth(x) as u64) << 22).collect();
+    let (mut parents, mut edge) = (vec![0; problem.n], vec![0; problem.n]);
+    let mut labels = vec![1u64 << 30; problem.n];
+    labels[0] = 0;
     let mut changed = true;
     while changed {
         changed = false;
@@ -142,15 +121,20 @@ impl Basis {
         }
     }
 
-    /// The worst edge, if one is violated; of equally bad ones, the one with the largest flow from its higher end less that from its lower.
-    fn entering_edge(&self, edges: &[Edge]) -> Option<usize> {
+    /// The worst edge of the first block, from the given one on and round all of them, that has a violated edge; of equally bad ones, the one with the
+    /// largest flow from its higher end less that from its lower.
+    fn entering_edge(&self, edges: &[Edge], block: usize) -> Option<usize> {
         let key = |e: usize| {
             let (s, t) = self.falling(&edges[e]);
             (self.excess(&edges[e]), self.flow(s) - self.flow(t))
         };
-        // The first of the worst: `max_by_key` would give the last.
-        let worst = (0..edges.len()).rev().max_by_key(|&e| key(e))?;
-        (self.excess(&edges[worst]) > 0).then_some(worst)
+        let blocks = edges.len().div_ceil(BLOCK);
+        (block..blocks).chain(0..block).find_map(|k| {
+            let end = edges.len().min(BLOCK * (k + 1));
+            // The first of the worst: `max_by_key` would give the last.
+            let worst = (BLOCK * k..end).rev().max_by_key(|&e| key(e))?;
+            (self.excess(&edges[worst]) > 0).then_some(worst)
+        })
     }
 
     fn pivot(&mut self, edge: &Edge) {
@@ -200,10 +184,11 @@ impl Basis {
 
 pub fn search(problem: &Problem) -> Ended {
     let mut basis = Basis::first(problem);
-    let mut pivots = 0;
-    while let Some(e) = basis.entering_edge(&problem.edges) {
+    let (mut pivots, mut block) = (0, 0);
+    while let Some(e) = basis.entering_edge(&problem.edges, block) {
         basis.pivot(&problem.edges[e]);
         pivots += 1;
+        block = e / BLOCK + 1;
     }
     Ended {
         parents: basis.parents,

@@ -4,18 +4,6 @@ use borrow.Author.Needs.{needs}
 use Rattle.host_record.proofs.write_figures.Statement.{statement}
 use Rattle.host_record.proofs.write_figures.Tie as tie
 
-put-long-requires : tie.Need-put-long-requires
-put-long-requires c κs = omega arith
-
-put-word-requires : tie.Need-put-word-requires
-put-word-requires c κs = omega arith
-
-put-byte-requires : tie.Need-put-byte-requires
-put-byte-requires c κs = omega arith
-
-same-length : tie.Need-same-length
-same-length c = search needs
-
 returns : tie.Need-returns
 returns c =
     let third = c .before .before in
@@ -25,4 +13,4 @@ returns c =
 
 pub write-figures-spec : {M : Type 1} → statement M
 write-figures-spec =
-    tie.close (tie.spec put-long-requires put-word-requires put-byte-requires same-length returns)
+    tie.close (tie.spec (λ c κs. omega arith) (λ c κs. omega arith) (λ c κs. omega arith) (λ c. search needs) returns)

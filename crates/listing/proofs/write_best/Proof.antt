@@ -6,20 +6,14 @@ use borrow.Author.Needs.{needs}
 use Rattle.listing.proofs.write_best.Statement.{statement}
 use Rattle.listing.proofs.write_best.Tie as tie
 
-slice-aggregate-write-line : tie.Need-slice-aggregate-write-line
-slice-aggregate-write-line c = search needs
-
 write-line-requires : tie.Need-write-line-requires
 write-line-requires c κs =
     let s = c .before .before .before in
     omega (arith, line-most bestWord (s .args .cost) (omega arith))
-
-same-length : tie.Need-same-length
-same-length c = search needs
 
 returns : tie.Need-returns
 returns c = wrote-front (c .before .before .write-line .ensures)
 
 pub write-best-spec : {M : Type 1} → statement M
 write-best-spec =
-    tie.close (tie.spec slice-aggregate-write-line write-line-requires same-length returns)
+    tie.close (tie.spec (λ c. search needs) write-line-requires (λ c. search needs) returns)

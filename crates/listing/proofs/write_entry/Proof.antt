@@ -28,9 +28,6 @@ write-byte-requires c κs =
     let s = c .before .before .before .before .before .before .before .before .before .before .before .before .before .before .before .args in
     omega (arith, length-some (s .i) (s .j) (s .v) (positive (c .before .before .before .before .before .before .before .before .before .before .before .before .before .if1 .left)))
 
-same-length : tie.Need-same-length
-same-length c = search needs
-
 returns-2 : tie.Need-returns-2
 returns-2 c =
     entry-wrote _ _ _ _ _ (positive (c .before .before .before .before .before .before .before .before .before .before .before .before .before .before .before .before .if1 .left)) (c .before .before .before .before .before .before .before .before .before .before .before .before .before .before .before .before .before .before .pre)
@@ -46,5 +43,5 @@ write-entry-spec =
     write-spaced-requires
     write-spaced-requires-2
     write-byte-requires
-    same-length
+    (λ c. search needs)
     returns-2)

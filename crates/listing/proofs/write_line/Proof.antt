@@ -19,9 +19,6 @@ write-byte-requires c κs =
     let s = c .before .before .before .before .before .before .before .before .before .before .before .args in
     omega (arith, length-line (s .word .now) (s .x))
 
-same-length : tie.Need-same-length
-same-length c = search needs
-
 returns : tie.Need-returns
 returns c =
     line-wrote _ _ _ _ (c .before .before .before .before .before .before .before .before .before .before .before .before .before .before .pre) (c .before .before .before .before .before .before .before .before .before .before .write-word .ensures)
@@ -30,4 +27,4 @@ returns c =
 pub write-line-spec : {M : Type 1} → statement M
 write-line-spec =
     tie.close
-    (tie.spec write-word-requires write-spaced-requires write-byte-requires same-length returns)
+    (tie.spec write-word-requires write-spaced-requires write-byte-requires (λ c. search needs) returns)

@@ -46,12 +46,6 @@ write-entry-requires c κs =
     let l = c .before .before .before .loop in
     omega (arith, entry-most (s .args .n) (s .args .i) (l .j) (s .args .plan .now) (s .pre .0) (s .pre .1) (c .before .before .loop-test .taken) (c .before .shared-slice-known2 .given (s .args .i * s .args .n + l .j) .fits))
 
-add-j : tie.Need-add-j Inv-loop μ-loop
-add-j c = omega arith
-
-loop-less : tie.Need-loop-less Inv-loop μ-loop
-loop-less c = omega arith
-
 loop-again : tie.Need-loop-again Inv-loop μ-loop
 loop-again c =
     let s = c .before .before .before .before .before .before .before .before .before in
@@ -83,8 +77,8 @@ write-row-spec =
     mul-write-entry
     shared-slice-read-write-entry
     write-entry-requires
-    add-j
-    loop-less
+    (λ c. omega arith)
+    (λ c. omega arith)
     loop-again
     same-length
     returns)

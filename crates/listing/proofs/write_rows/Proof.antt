@@ -26,12 +26,6 @@ write-row-requires c κs =
     let h = c .before .loop-test .taken in
     (s .pre .0, h, s .pre .1, omega (arith, row-below (s .args .n) (c .before .before .loop .i) (s .args .n) h))
 
-add-i : tie.Need-add-i Inv-loop μ-loop
-add-i c = omega arith
-
-loop-less : tie.Need-loop-less Inv-loop μ-loop
-loop-less c = omega arith
-
 loop-again : tie.Need-loop-again Inv-loop μ-loop
 loop-again c =
     let s = c .before .before .before .before .before .before .before .before in
@@ -59,8 +53,8 @@ write-rows-spec =
     μ-loop
     loop-holds
     write-row-requires
-    add-i
-    loop-less
+    (λ c. omega arith)
+    (λ c. omega arith)
     loop-again
     same-length
     returns)

@@ -4,15 +4,6 @@ use borrow.Author.Needs.{needs}
 use Rattle.listing.proofs.write_spaced.Statement.{statement}
 use Rattle.listing.proofs.write_spaced.Tie as tie
 
-write-byte-requires : tie.Need-write-byte-requires
-write-byte-requires c κs = omega arith
-
-write-number-requires : tie.Need-write-number-requires
-write-number-requires c κs = omega arith
-
-same-length : tie.Need-same-length
-same-length c = search needs
-
 returns : tie.Need-returns
 returns c =
     let w = c .before .before .before .before .before .before .write-byte .ensures in
@@ -20,4 +11,4 @@ returns c =
 
 pub write-spaced-spec : {M : Type 1} → statement M
 write-spaced-spec =
-    tie.close (tie.spec write-byte-requires write-number-requires same-length returns)
+    tie.close (tie.spec (λ c κs. omega arith) (λ c κs. omega arith) (λ c. search needs) returns)

@@ -7,16 +7,10 @@ use borrow.Author.Needs.{needs}
 use Rattle.listing.proofs.write_weighed.Statement.{statement}
 use Rattle.listing.proofs.write_weighed.Tie as tie
 
-slice-aggregate-write-line : tie.Need-slice-aggregate-write-line
-slice-aggregate-write-line c = search needs
-
 write-line-requires : tie.Need-write-line-requires
 write-line-requires c κs =
     let s = c .before .before .before .before in
     omega (arith, line-most costWord (s .args .cost) (omega arith))
-
-slice-aggregate-write-line-2 : tie.Need-slice-aggregate-write-line-2
-slice-aggregate-write-line-2 c = search needs
 
 write-line-requires-2 : tie.Need-write-line-requires-2
 write-line-requires-2 c κs =
@@ -31,9 +25,6 @@ write-rows-requires c κs =
       s .pre .1,
       omega (arith, line-most costWord (s .args .cost) (omega arith), line-most movesWord (s .args .moves) (omega arith)),
     )
-
-same-length : tie.Need-same-length
-same-length c = search needs
 
 returns : tie.Need-returns
 returns c =
@@ -50,10 +41,10 @@ pub write-weighed-spec : {M : Type 1} → statement M
 write-weighed-spec =
     tie.close
     (tie.spec
-    slice-aggregate-write-line
+    (λ c. search needs)
     write-line-requires
-    slice-aggregate-write-line-2
+    (λ c. search needs)
     write-line-requires-2
     write-rows-requires
-    same-length
+    (λ c. search needs)
     returns)

@@ -1,46 +1,65 @@
-use native.Mathlib.Omega.{arith}
-use Rattle.optimal_transport.specs.SolveLaws.{judge-refused, can-solve, given-can, judged-best, judged-other}
 use borrow.Author.Needs.{needs}
+use native.Mathlib.Omega.{arith}
+use Rattle.optimal_transport.specs.SolveLaws.{judge-refused, can-judge, given-can, judged-best, judged-other}
 use Rattle.optimal_transport.proofs.is_optimal.Statement.{statement}
 use Rattle.optimal_transport.proofs.is_optimal.Tie as tie
 
-slice-aggregate-given-refusal : tie.Need-slice-aggregate-given-refusal
-slice-aggregate-given-refusal c = search needs
-
-given-refusal-requires : tie.Need-given-refusal-requires
-given-refusal-requires c κs = search needs
-
 returns : tie.Need-returns
-returns c = judge-refused (c .before .before .given-refusal .ensures) (c .if1 .taken)
-
-new-requires : tie.Need-new-requires
-new-requires c κs = search needs
-
-slice-aggregate-cost-of : tie.Need-slice-aggregate-cost-of
-slice-aggregate-cost-of c = search needs
+returns c = let k : tie.After-given-refusal = search in judge-refused (k .given-refusal .ensures) (c .if1 .taken)
 
 cost-of-requires : tie.Need-cost-of-requires
-cost-of-requires c κs = given-can (c .before .before .before .before .given-refusal .ensures) (c .before .before .if1 .left) (c .before .new .ensures) (omega arith)
+cost-of-requires c κs =
+    let k : tie.After-given-refusal = search in
+    let e : tie.Else1 = search in
+    let m : tie.After-new = search in
+    given-can (k .given-refusal .ensures) (e .if1 .left) (m .new .ensures) (omega arith)
 
 least-cost-requires : tie.Need-least-cost-requires
-least-cost-requires c κs = can-solve (c .before .before .before .before .before .given-refusal .ensures) (c .before .before .before .if1 .left)
+least-cost-requires c κs =
+    let k : tie.After-given-refusal = search in
+    let e : tie.Else1 = search in
+    record {
+      can = can-judge (k .given-refusal .ensures) (e .if1 .left);
+      tree = k .given-refusal .ensures .tree (e .if1 .left);
+      parents-size = omega arith;
+      edge-size = omega arith;
+      labels-size = omega arith;
+    }
 
 returns-2 : tie.Need-returns-2
-returns-2 c = judged-best (c .before .before .before .before .before .before .before .given-refusal .ensures) (c .before .before .before .before .before .if1 .left) (c .before .before .before .before .new .ensures) (c .before .before .cost-of .ensures) (c .before .least-cost .ensures) (c .if2 .taken)
+returns-2 c =
+    let k : tie.After-given-refusal = search in
+    let e : tie.Else1 = search in
+    let m : tie.After-new = search in
+    let v : tie.After-cost-of = search in
+    let b : tie.After-least-cost = search in
+    judged-best (k .given-refusal .ensures) (e .if1 .left) (m .new .ensures) (v .cost-of .ensures) (b .least-cost .ensures) (c .if2 .taken)
 
 returns-3 : tie.Need-returns-3
-returns-3 c = judged-other (c .before .before .before .before .before .before .before .given-refusal .ensures) (c .before .before .before .before .before .if1 .left) (c .before .before .before .before .new .ensures) (c .before .before .cost-of .ensures) (c .before .least-cost .ensures) (c .if2 .left)
+returns-3 c =
+    let k : tie.After-given-refusal = search in
+    let e : tie.Else1 = search in
+    let m : tie.After-new = search in
+    let v : tie.After-cost-of = search in
+    let b : tie.After-least-cost = search in
+    judged-other (k .given-refusal .ensures) (e .if1 .left) (m .new .ensures) (v .cost-of .ensures) (b .least-cost .ensures) (c .if2 .left)
 
 pub is-optimal-spec : {M : Type 1} → statement M
 is-optimal-spec =
     tie.close
     (tie.spec
-    slice-aggregate-given-refusal
-    given-refusal-requires
+    (λ c. search needs)
+    (λ c. search needs)
+    (λ c. search needs)
+    (λ c. search needs)
+    (λ c κs. search needs)
     returns
-    new-requires
-    slice-aggregate-cost-of
+    (λ c κs. search needs)
+    (λ c. search needs)
     cost-of-requires
+    (λ c. search needs)
+    (λ c. search needs)
+    (λ c. search needs)
     least-cost-requires
     returns-2
     returns-3)

@@ -1,57 +1,50 @@
--- `shortest_path_tree` meets its contract. The loop's invariant: the tree is labelled; the sum of the labels falls. Assumes nothing.
+-- The loop's invariant: the tables are labelled from the start, and the quiet edges lower no label; the sum of the labels falls, or more edges are quiet.
+use Prim.Native.Nat.{_+_, _*_, _-_}
 use mathlib.Core.Path.{_≡_, refl}
 use native.Mathlib.Omega.{arith}
 use lib.ListN.{length}
 use Rattle.arithmetic.specs.Sum.{sum}
 use Rattle.arithmetic.specs.Table.{at}
 use Rattle.graph.specs.Graph.{graph}
-use Rattle.shortest_paths.specs.Labels.{Labelled}
-use Rattle.shortest_paths.proofs.Labelling.{few, rooted, first-labelled, less-left, shortest}
+use Rattle.shortest_paths.specs.Labels.{Quiet}
+use Rattle.shortest_paths.proofs.Labelling.{vertices, lists, first-labelled, quiet-none, quiet-more, less-left, all-quiet, searched}
 use Rattle.shortest_paths.proofs.shortest_path_tree.Statement.{statement}
 use Rattle.shortest_paths.proofs.shortest_path_tree.Tie as tie
 
 abbrev Inv-loop : tie.InvT-loop
-Inv-loop n a b lengths mu nu parents₀ edge₀ labels₀ parents edge labels = (length parents ≡ length parents₀) × ((length edge ≡ length edge₀) × ((length labels ≡ 64) × Labelled (graph n a b lengths) parents edge labels))
+Inv-loop n a b lengths start parents₀ edge₀ labels₀ e₀ quiet₀ parents edge labels e quiet = (length parents ≡ length parents₀) × ((length edge ≡ length edge₀) × ((length labels ≡ length labels₀)
+    × Quiet (graph n a b lengths) start e quiet parents edge labels))
 
 abbrev μ-loop : tie.MeasureT-loop
-μ-loop n a b lengths mu nu parents₀ edge₀ labels₀ parents edge labels = sum n (at labels)
+μ-loop n a b lengths start parents₀ edge₀ labels₀ e₀ quiet₀ parents edge labels e quiet = sum n (at labels) * (length a + 1) + (length a - quiet)
 
-slice-aggregate-first-labels : tie.Need-slice-aggregate-first-labels Inv-loop μ-loop
-slice-aggregate-first-labels c = omega arith
-
-first-labels-requires : tie.Need-first-labels-requires Inv-loop μ-loop
-first-labels-requires c κs = let can = c .before .before .before .before .before .before .before .before .before .pre in ((few can .1, (omega (arith, few can, can .parents-size), omega (arith, few can))), rooted can)
+clear-requires : tie.Need-clear-requires Inv-loop μ-loop
+clear-requires c κs = let s = c .before .before .before .before .before .before .before .before .pre in (omega (arith, s .start-in, vertices (s .formed)), (s .wide .0, s .wide .1 .1))
 
 loop-holds : tie.Need-loop-holds Inv-loop μ-loop
-loop-holds c = (refl, (refl, (c .before .first-labels .ensures .size, first-labelled (c .before .before .before .before .before .before .before .before .before .before .before .pre) _ _ refl (c .before .first-labels .ensures))))
+loop-holds c = (refl, (refl, (refl, quiet-none (first-labelled (c .before .before .before .before .before .before .before .before .before .before .before .before .before .pre) (c .before .before .before .before .clear .ensures)))))
 
-slice-aggregate-relax-round : tie.Need-slice-aggregate-relax-round Inv-loop μ-loop
-slice-aggregate-relax-round c = omega arith
+relax-edge-requires : tie.Need-relax-edge-requires Inv-loop μ-loop
+relax-edge-requires c κs = let q = c .before .before .before .before .loop .inv .1 .1 .1 in ((c .before .before .before .before .before .before .before .before .before .before .before .before .before .before .before .before .before .before .args .n, (c .before .before .before .before .before .before .before .before .before .before .before .before .before .before .before .before .before .before .args .start, q .labelled)), q .edge (omega arith))
 
-relax-round-requires : tie.Need-relax-round-requires Inv-loop μ-loop
-relax-round-requires c κs = (c .before .before .before .before .before .before .before .before .before .before .before .before .before .before .before .args .n, c .before .before .before .loop .inv .1 .1 .1)
+longer-requires : tie.Need-longer-requires Inv-loop μ-loop
+longer-requires c κs = let q = c .before .before .before .before .before .before .before .before .before .before .before .loop .inv .1 .1 .1 in omega (arith, lists (q .labelled .can .formed))
+
+next-requires : tie.Need-next-requires Inv-loop μ-loop
+next-requires c κs = let q = c .before .before .before .before .before .before .before .before .before .before .before .before .loop .inv .1 .1 .1 in omega (arith, q .edge (omega arith), lists (q .labelled .can .formed))
 
 loop-less : tie.Need-loop-less Inv-loop μ-loop
-loop-less c = less-left _ (c .if1 .taken) (c .before .before .before .before .before .before .relax-round .ensures _ (c .before .before .before .before .before .before .before .before .before .before .loop .inv .1 .1 .1))
+loop-less c = let q = c .before .before .before .before .before .before .before .before .before .before .before .before .before .loop .inv .1 .1 .1 in less-left q (c .before .before .before .before .before .before .before .before .before .before .before .before .loop-test .taken) _ (c .before .before .before .before .before .before .before .before .relax-edge .ensures _ _ (q .labelled)) _ (c .before .longer .ensures)
 
 loop-again : tie.Need-loop-again Inv-loop μ-loop
-loop-again c = (omega arith, (omega arith, (omega arith, c .before .before .before .before .before .before .relax-round .ensures _ (c .before .before .before .before .before .before .before .before .before .before .loop .inv .1 .1 .1) .labelled)))
+loop-again c = let q = c .before .before .before .before .before .before .before .before .before .before .before .before .before .loop .inv .1 .1 .1 in
+    (omega arith, (omega arith, (omega arith, quiet-more q (c .before .before .before .before .before .before .before .before .before .before .before .before .loop-test .taken) _ (c .before .before .before .before .before .before .before .before .relax-edge .ensures _ _ (q .labelled)) _ _ (c .next .ensures) (c .before .longer .ensures))))
 
-slice-aggregate-settle-ties : tie.Need-slice-aggregate-settle-ties Inv-loop μ-loop
-slice-aggregate-settle-ties c = omega arith
-
-settle-ties-requires : tie.Need-settle-ties-requires Inv-loop μ-loop
-settle-ties-requires c κs = (c .before .before .before .before .before .before .before .before .before .before .before .before .before .before .before .before .before .before .before .before .before .before .before .before .before .args .n, (c .before .before .before .before .before .before .before .before .before .relax-round .ensures _ (c .before .before .before .before .before .before .before .before .before .before .before .before .before .loop .inv .1 .1 .1) .labelled, c .before .before .before .before .before .before .before .before .before .before .before .before .before .before .before .before .before .before .before .before .before .before .before .before .before .pre .masses))
-
-same-length : tie.Need-same-length Inv-loop μ-loop
-same-length c = omega arith
-
-same-length-2 : tie.Need-same-length-2 Inv-loop μ-loop
-same-length-2 c = omega arith
+all-reached-requires : tie.Need-all-reached-requires Inv-loop μ-loop
+all-reached-requires c κs = let m = c .before .before .loop .inv .1 .1 .1 .labelled in omega (arith, m .can .wide, vertices (m .can .formed))
 
 returns : tie.Need-returns Inv-loop μ-loop
-returns c = let s = c .before .before .before .before .before .before .before .before .before .before .before .before .before .before .before .before .before .before .before .before .before .before .before .before .before .before .before .before .before .before in let k = c .before .before .before .before .before .before .before .before .before .before .before .before .before .before .relax-round .ensures _ (c .before .before .before .before .before .before .before .before .before .before .before .before .before .before .before .before .before .before .loop .inv .1 .1 .1) in
-    shortest {g = graph (s .args .n) (s .args .a .now) (s .args .b .now) (s .args .lengths .now)} (c .before .before .before .before .settle-ties .ensures _ (k .labelled)) (λ e l. k .closed (c .before .before .before .before .before .before .before .before .if1 .left) e (omega arith) l)
+returns c = let q = c .before .before .before .loop .inv .1 .1 .1 in searched (q .labelled) (all-quiet q (omega arith)) _ (c .all-reached .ensures)
 
 pub shortest-path-tree-spec : {M : Type 1} → statement M
 shortest-path-tree-spec =
@@ -59,15 +52,15 @@ shortest-path-tree-spec =
     (tie.spec
     Inv-loop
     μ-loop
-    slice-aggregate-first-labels
-    first-labels-requires
+    clear-requires
     loop-holds
-    slice-aggregate-relax-round
-    relax-round-requires
+    relax-edge-requires
+    longer-requires
+    next-requires
     loop-less
     loop-again
-    slice-aggregate-settle-ties
-    settle-ties-requires
-    same-length
-    same-length-2
+    all-reached-requires
+    (λ c. omega arith)
+    (λ c. omega arith)
+    (λ c. omega arith)
     returns)

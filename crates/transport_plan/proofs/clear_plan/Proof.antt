@@ -22,18 +22,6 @@ mul-size c = omega (arith, small (c .pre .0))
 loop-holds : tie.Need-loop-holds Inv-loop μ-loop
 loop-holds c = (omega arith, refl, refl, tab-none _ _)
 
-mul-plan : tie.Need-mul-plan Inv-loop μ-loop
-mul-plan c = omega arith
-
-slice-write-plan : tie.Need-slice-write-plan Inv-loop μ-loop
-slice-write-plan c = omega arith
-
-add-place : tie.Need-add-place Inv-loop μ-loop
-add-place c = omega arith
-
-loop-less : tie.Need-loop-less Inv-loop μ-loop
-loop-less c = omega arith
-
 loop-again : tie.Need-loop-again Inv-loop μ-loop
 loop-again c = (omega arith, refl, simp length-set (c .before .loop .inv .2), tab-store _ (λ _. 0) _ _ _ (omega arith) (c .before .loop .inv .3) refl)
 
@@ -51,10 +39,10 @@ clear-plan-spec =
     μ-loop
     mul-size
     loop-holds
-    mul-plan
-    slice-write-plan
-    add-place
-    loop-less
+    (λ c. omega arith)
+    (λ c. omega arith)
+    (λ c. omega arith)
+    (λ c. omega arith)
     loop-again
     same-length
     returns)

@@ -18,9 +18,6 @@ abbrev μ-loop : tie.MeasureT-loop
 loop-holds : tie.Need-loop-holds Inv-loop μ-loop
 loop-holds c = (omega arith, counted-none _ _)
 
-count-row-requires : tie.Need-count-row-requires Inv-loop μ-loop
-count-row-requires c κs = omega arith
-
 add-count : tie.Need-add-count Inv-loop μ-loop
 add-count c =
     let n = c .before .before .before .before .args .n in
@@ -31,12 +28,6 @@ add-count c =
       row-below n _ _ (c .before .loop-test .taken),
       small (c .before .before .before .before .pre .0),
     )
-
-add-i : tie.Need-add-i Inv-loop μ-loop
-add-i c = omega arith
-
-loop-less : tie.Need-loop-less Inv-loop μ-loop
-loop-less c = omega arith
 
 loop-again : tie.Need-loop-again Inv-loop μ-loop
 loop-again c = (omega arith, counted-more _ _ _ _ _ (c .before .before .loop .inv .1) (c .count-row .ensures) (row-few _ _ _ _ (c .count-row .ensures)))
@@ -52,9 +43,9 @@ count-moves-spec =
     Inv-loop
     μ-loop
     loop-holds
-    count-row-requires
+    (λ c κs. omega arith)
     add-count
-    add-i
-    loop-less
+    (λ c. omega arith)
+    (λ c. omega arith)
     loop-again
     returns)

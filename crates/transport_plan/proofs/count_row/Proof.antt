@@ -15,23 +15,11 @@ abbrev μ-loop : tie.MeasureT-loop
 loop-holds : tie.Need-loop-holds Inv-loop μ-loop
 loop-holds c = (omega arith, counted-none _ _)
 
-positive-at-requires : tie.Need-positive-at-requires Inv-loop μ-loop
-positive-at-requires c κs = omega arith
-
 add-count : tie.Need-add-count Inv-loop μ-loop
 add-count c = omega (arith, c .before .before .loop .inv .1 .few, positive-one _ _ _ _ (c .positive-at .ensures))
 
-add-j : tie.Need-add-j Inv-loop μ-loop
-add-j c = omega arith
-
-loop-less : tie.Need-loop-less Inv-loop μ-loop
-loop-less c = omega arith
-
 loop-again : tie.Need-loop-again Inv-loop μ-loop
 loop-again c = (omega arith, counted-more _ _ _ _ _ (c .before .before .loop .inv .1) (c .positive-at .ensures) (positive-one _ _ _ _ (c .positive-at .ensures)))
-
-positive-at-requires-2 : tie.Need-positive-at-requires-2 Inv-loop μ-loop
-positive-at-requires-2 c κs = omega arith
 
 sub-result : tie.Need-sub-result Inv-loop μ-loop
 sub-result c =
@@ -50,11 +38,11 @@ count-row-spec =
     Inv-loop
     μ-loop
     loop-holds
-    positive-at-requires
+    (λ c κs. omega arith)
     add-count
-    add-j
-    loop-less
+    (λ c. omega arith)
+    (λ c. omega arith)
     loop-again
-    positive-at-requires-2
+    (λ c κs. omega arith)
     sub-result
     returns)

@@ -3,19 +3,10 @@ use Rattle.transport_plan.proofs.PlanStart.{started-none, started-held,
 use Rattle.transport_plan.proofs.fill_plan.Statement.{statement}
 use Rattle.transport_plan.proofs.fill_plan.Tie as tie
 
-clear-plan-requires : tie.Need-clear-plan-requires
-clear-plan-requires c κs = omega arith
-
 keep-shared-requires : tie.Need-keep-shared-requires
 keep-shared-requires c κs =
     let s = c .before .before .before .before .before .before .before .before .before .before .before .before .before in
     (omega arith, s .pre .1, started-none _ _ _ (s .pre .2) (c .before .before .before .before .before .clear-plan .ensures) _ _ _ _ (omega arith) (omega arith))
-
-positive-word-requires : tie.Need-positive-word-requires
-positive-word-requires c κs = omega arith
-
-positive-word-requires-2 : tie.Need-positive-word-requires-2
-positive-word-requires-2 c κs = omega arith
 
 take-layers-requires : tie.Need-take-layers-requires
 take-layers-requires c κs =
@@ -39,10 +30,10 @@ pub fill-plan-spec : {M : Type 1} → statement M
 fill-plan-spec =
     tie.close
     (tie.spec
-    clear-plan-requires
+    (λ c κs. omega arith)
     keep-shared-requires
-    positive-word-requires
-    positive-word-requires-2
+    (λ c κs. omega arith)
+    (λ c κs. omega arith)
     take-layers-requires
     same-length
     returns)

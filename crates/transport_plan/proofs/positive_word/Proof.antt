@@ -16,20 +16,8 @@ abbrev μ-loop : tie.MeasureT-loop
 loop-holds : tie.Need-loop-holds Inv-loop μ-loop
 loop-holds c = (omega arith, mask-none _)
 
-mul-with-positive : tie.Need-mul-with-positive Inv-loop μ-loop
-mul-with-positive c = omega arith
-
-element-copy-out-with-positive : tie.Need-element-copy-out-with-positive Inv-loop μ-loop
-element-copy-out-with-positive c = omega arith
-
 with-positive-requires : tie.Need-with-positive-requires Inv-loop μ-loop
 with-positive-requires c κs = (omega arith, mask-under _ _ _ (c .before .before .loop .inv .1))
-
-add-x : tie.Need-add-x Inv-loop μ-loop
-add-x c = omega arith
-
-loop-less : tie.Need-loop-less Inv-loop μ-loop
-loop-less c = omega arith
 
 loop-again : tie.Need-loop-again Inv-loop μ-loop
 loop-again c = (omega arith, mask-step _ _ _ _ (c .before .before .before .loop .inv .1) (c .with-positive .ensures))
@@ -44,10 +32,10 @@ positive-word-spec =
     Inv-loop
     μ-loop
     loop-holds
-    mul-with-positive
-    element-copy-out-with-positive
+    (λ c. omega arith)
+    (λ c. omega arith)
     with-positive-requires
-    add-x
-    loop-less
+    (λ c. omega arith)
+    (λ c. omega arith)
     loop-again
     returns)

@@ -1,62 +1,60 @@
+use mathlib.Core.Path.{refl}
 use native.Mathlib.Omega.{arith}
-use Rattle.tree_evaluation.specs.EvaluateLaws.{evaluate-refused, evaluable, potential-asked, evaluate-done}
 use borrow.Author.Needs.{needs}
+use Rattle.spanning_tree.specs.GivenLaws.{given-answers}
+use Rattle.tree_evaluation.specs.EvaluateLaws.{evaluate-refused, evaluable, potential-asked, evaluate-done}
 use Rattle.tree_evaluation.proofs.evaluate.Statement.{statement}
 use Rattle.tree_evaluation.proofs.evaluate.Tie as tie
 
-has-room-requires : tie.Need-has-room-requires
-has-room-requires c κs = search needs
-
-slice-aggregate-given-refusal : tie.Need-slice-aggregate-given-refusal
-slice-aggregate-given-refusal c = search needs
-
-given-refusal-requires : tie.Need-given-refusal-requires
-given-refusal-requires c κs = search needs
-
 returns : tie.Need-returns
-returns c = evaluate-refused _ _ _ _ _ _ (c .before .before .before .before .has-room .ensures) _ (c .before .before .given-refusal .ensures) (c .if1 .taken)
-
-new-requires : tie.Need-new-requires
-new-requires c κs = search needs
-
-slice-aggregate-evaluate-tree : tie.Need-slice-aggregate-evaluate-tree
-slice-aggregate-evaluate-tree c = search needs
+returns c =
+    let k : tie.After-given-refusal = search in
+    let r : tie.After-has-room = search in
+    evaluate-refused _ _ _ (given-answers (r .has-room .ensures) (k .given-refusal .ensures)) (c .if1 .taken)
 
 evaluate-tree-requires : tie.Need-evaluate-tree-requires
-evaluate-tree-requires c κs = evaluable _ _ _ (c .before .before .before .before .before .before .before .before .before .before .before .before .before .before .before .before .args .potential .now) _ _ (c .before .before .before .before .before .before .before .before .has-room .ensures) _ (c .before .before .before .before .before .before .given-refusal .ensures) (c .before .before .before .before .if1 .left) (c .before .before .before .new .ensures) (omega arith)
-
-slice-aggregate-write-potential : tie.Need-slice-aggregate-write-potential
-slice-aggregate-write-potential c = search needs
+evaluate-tree-requires c κs =
+    let m : tie.After-new = search in
+    let e : tie.Else1 = search in
+    let k : tie.After-given-refusal = search in
+    let r : tie.After-has-room = search in
+    evaluable _ _ _ (given-answers (r .has-room .ensures) (k .given-refusal .ensures)) (e .if1 .left) (m .new .ensures) (omega arith)
 
 write-potential-requires : tie.Need-write-potential-requires
-write-potential-requires c κs = potential-asked _ _ (c .before .before .before .before .before .before .before .before .before .before .before .before .before .before .before .before .before .before .before .before .before .before .before .args .imbalance .now) (c .before .before .before .before .before .before .before .before .before .before .before .before .before .before .before .before .before .before .before .before .before .before .before .args .potential .now) (c .before .before .before .before .before .before .before .before .before .before .before .before .before .before .before .before .before .before .before .before .before .before .before .args .plan .now) _ (c .before .before .before .before .before .before .before .before .before .before .before .before .before .before .before .has-room .ensures) _ (c .before .before .before .before .before .before .before .before .before .before .before .before .before .given-refusal .ensures) (c .before .before .before .before .before .before .before .before .before .before .before .if1 .left) (c .before .before .before .before .before .before .before .before .before .before .new .ensures) (c .before .before .before .before .before .before .evaluate-tree .ensures _ _ _) (omega arith) (omega arith)
-
-same-length : tie.Need-same-length
-same-length c = search needs
-
-same-length-2 : tie.Need-same-length-2
-same-length-2 c = search needs
-
-same-length-3 : tie.Need-same-length-3
-same-length-3 c = search needs
+write-potential-requires c κs =
+    let v : tie.After-evaluate-tree = search in
+    let m : tie.After-new = search in
+    let e : tie.Else1 = search in
+    let k : tie.After-given-refusal = search in
+    let r : tie.After-has-room = search in
+    potential-asked _ _ _ (given-answers (r .has-room .ensures) (k .given-refusal .ensures)) (e .if1 .left) (m .new .ensures) (v .evaluate-tree .ensures _ _ _) (omega arith)
 
 returns-2 : tie.Need-returns-2
-returns-2 c = evaluate-done _ _ _ _ _ _ (c .before .before .before .before .before .before .before .before .before .before .before .before .before .before .before .before .before .has-room .ensures) _ (c .before .before .before .before .before .before .before .before .before .before .before .before .before .before .before .given-refusal .ensures) (c .before .before .before .before .before .before .before .before .before .before .before .before .before .if1 .left) (c .before .before .before .before .before .before .before .before .before .before .before .before .new .ensures) (c .before .before .before .before .before .before .before .before .evaluate-tree .ensures _ _ _) (c .before .write-potential .ensures)
+returns-2 c =
+    let v : tie.After-evaluate-tree = search in
+    let m : tie.After-new = search in
+    let e : tie.Else1 = search in
+    let k : tie.After-given-refusal = search in
+    let r : tie.After-has-room = search in
+    evaluate-done _ _ _ (given-answers (r .has-room .ensures) (k .given-refusal .ensures)) (e .if1 .left) (m .new .ensures) (v .evaluate-tree .ensures _ _ _) refl (c .before .write-potential .ensures)
 
 pub evaluate-spec : {M : Type 1} → statement M
 evaluate-spec =
     tie.close
     (tie.spec
-    has-room-requires
-    slice-aggregate-given-refusal
-    given-refusal-requires
+    (λ c κs. search needs)
+    (λ c. search needs)
+    (λ c. search needs)
+    (λ c. search needs)
+    (λ c. search needs)
+    (λ c κs. search needs)
     returns
-    new-requires
-    slice-aggregate-evaluate-tree
+    (λ c κs. search needs)
+    (λ c. search needs)
     evaluate-tree-requires
-    slice-aggregate-write-potential
+    (λ c. search needs)
     write-potential-requires
-    same-length
-    same-length-2
-    same-length-3
+    (λ c. search needs)
+    (λ c. search needs)
+    (λ c. search needs)
     returns-2)

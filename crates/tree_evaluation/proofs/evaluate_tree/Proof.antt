@@ -14,39 +14,15 @@ use Rattle.tree_evaluation.proofs.evaluate_tree.Tie as tie
 slice-aggregate-subtree-tables : tie.Need-slice-aggregate-subtree-tables
 slice-aggregate-subtree-tables c = search needs
 
-slice-aggregate-subtree-tables-2 : tie.Need-slice-aggregate-subtree-tables-2
-slice-aggregate-subtree-tables-2 c = search needs
-
-slice-aggregate-subtree-tables-3 : tie.Need-slice-aggregate-subtree-tables-3
-slice-aggregate-subtree-tables-3 c = search needs
-
-slice-aggregate-subtree-tables-4 : tie.Need-slice-aggregate-subtree-tables-4
-slice-aggregate-subtree-tables-4 c = search needs
-
-slice-aggregate-subtree-tables-5 : tie.Need-slice-aggregate-subtree-tables-5
-slice-aggregate-subtree-tables-5 c = search needs
-
 subtree-tables-requires : tie.Need-subtree-tables-requires
 subtree-tables-requires c κs = let s = c .before .before .before .before .before .before .before .before .before .before in
     let p = s .pre in
     let e : 64 ≡ length (s .args .tree .parents) = slice-aggregate-subtree-tables (c .before .before .before .before) in
     ((p .few, (omega (arith, p .few), p .few)), (p .tree, (record { masks-long = p .few; supply-long = p .few; demand-long = p .few }, (p .measures .long-mu, (p .measures .long-nu, (omega (arith, p .measures .total-mu), omega (arith, p .measures .total-nu)))))))
 
-slice-aggregate-write-imbalance : tie.Need-slice-aggregate-write-imbalance
-slice-aggregate-write-imbalance c = search needs
-
-slice-aggregate-write-imbalance-2 : tie.Need-slice-aggregate-write-imbalance-2
-slice-aggregate-write-imbalance-2 c = search needs
-
 write-imbalance-requires : tie.Need-write-imbalance-requires
 write-imbalance-requires c κs = let p = c .before .before .before .before .before .before .before .before .before .before .before .before .before .before .before .before .before .before .pre in
     ((omega arith, (omega arith, p .room-imbalance)), (subtotals-within _ _ _ _ _ _ (c .before .before .before .before .before .before .before .subtree-tables .ensures .1 .1 .0) (omega (arith, p .measures .total-mu)), subtotals-within _ _ _ _ _ _ (c .before .before .before .before .before .before .before .subtree-tables .ensures .1 .1 .1) (omega (arith, p .measures .total-nu))))
-
-slice-aggregate-tree-cost : tie.Need-slice-aggregate-tree-cost
-slice-aggregate-tree-cost c = search needs
-
-slice-aggregate-tree-cost-2 : tie.Need-slice-aggregate-tree-cost-2
-slice-aggregate-tree-cost-2 c = search needs
 
 tree-cost-requires : tie.Need-tree-cost-requires
 tree-cost-requires c κs = let p = c .before .before .before .before .before .before .before .before .before .before .before .before .before .before .before .before .before .before .before .before .before .before .pre in
@@ -54,22 +30,10 @@ tree-cost-requires c κs = let p = c .before .before .before .before .before .be
     let demanded = subtotals-within _ _ _ (2 ^ 31) _ _ (c .before .before .before .before .before .before .before .before .before .before .before .subtree-tables .ensures .1 .1 .1) (omega (arith, p .measures .total-nu)) in
     ((p .few, (p .long-above, (omega arith, omega arith))), (p .short, (λ x l. omega (arith, supplied x l, demanded x l), λ x l. omega (arith, supplied x l, demanded x l))))
 
-slice-aggregate-tree-plan : tie.Need-slice-aggregate-tree-plan
-slice-aggregate-tree-plan c = search needs
-
-slice-aggregate-tree-plan-2 : tie.Need-slice-aggregate-tree-plan-2
-slice-aggregate-tree-plan-2 c = search needs
-
 tree-plan-requires : tie.Need-tree-plan-requires
 tree-plan-requires c κs = let p = c .before .before .before .before .before .before .before .before .before .before .before .before .before .before .before .before .before .before .before .before .before .before .before .before .before .before .pre in
     let e = c .before .before .before .before .before .before .before .before .before .before .before .before .before .before .before .subtree-tables .ensures in
     ((walked _ _ _ _ _ _ _ (p .few) (omega arith) (omega arith) (e .0) (e .1 .0), p .room-plan), p .measures)
-
-same-length : tie.Need-same-length
-same-length c = search needs
-
-same-length-2 : tie.Need-same-length-2
-same-length-2 c = search needs
 
 returns : tie.Need-returns
 returns c = λ a b l h. let s = c .before .before .before .before .before .before .before .before .before .before .before .before .before .before .before .before .before .before .before .before .before .before .before .before .before .before .before .before .before .args in
@@ -81,20 +45,20 @@ evaluate-tree-spec =
     tie.close
     (tie.spec
     slice-aggregate-subtree-tables
-    slice-aggregate-subtree-tables-2
-    slice-aggregate-subtree-tables-3
-    slice-aggregate-subtree-tables-4
-    slice-aggregate-subtree-tables-5
+    (λ c. search needs)
+    (λ c. search needs)
+    (λ c. search needs)
+    (λ c. search needs)
     subtree-tables-requires
-    slice-aggregate-write-imbalance
-    slice-aggregate-write-imbalance-2
+    (λ c. search needs)
+    (λ c. search needs)
     write-imbalance-requires
-    slice-aggregate-tree-cost
-    slice-aggregate-tree-cost-2
+    (λ c. search needs)
+    (λ c. search needs)
     tree-cost-requires
-    slice-aggregate-tree-plan
-    slice-aggregate-tree-plan-2
+    (λ c. search needs)
+    (λ c. search needs)
     tree-plan-requires
-    same-length
-    same-length-2
+    (λ c. search needs)
+    (λ c. search needs)
     returns)

@@ -16,24 +16,6 @@ abbrev μ-loop : tie.MeasureT-loop
 loop-holds : tie.Need-loop-holds Inv-loop μ-loop
 loop-holds c = (walk-none (c .pre .walk) _ _, walk-first (c .pre .walk) _ _)
 
-mul-own : tie.Need-mul-own Inv-loop μ-loop
-mul-own c = omega arith
-
-slice-read-own : tie.Need-slice-read-own Inv-loop μ-loop
-slice-read-own c = omega arith
-
-mul-above : tie.Need-mul-above Inv-loop μ-loop
-mul-above c = omega arith
-
-slice-write-above : tie.Need-slice-write-above Inv-loop μ-loop
-slice-write-above c = omega arith
-
-mul-y : tie.Need-mul-y Inv-loop μ-loop
-mul-y c = omega arith
-
-shared-slice-read-y : tie.Need-shared-slice-read-y Inv-loop μ-loop
-shared-slice-read-y c = omega arith
-
 cast-y : tie.Need-cast-y Inv-loop μ-loop
 cast-y c = omega (arith, c .before .before .before .before .pre .walk .tree .into _ (c .before .before .before .loop .inv .0 .low))
 
@@ -56,12 +38,12 @@ advance-path-spec =
     Inv-loop
     μ-loop
     loop-holds
-    mul-own
-    slice-read-own
-    mul-above
-    slice-write-above
-    mul-y
-    shared-slice-read-y
+    (λ c. omega arith)
+    (λ c. omega arith)
+    (λ c. omega arith)
+    (λ c. omega arith)
+    (λ c. omega arith)
+    (λ c. omega arith)
     cast-y
     loop-less
     loop-again

@@ -3,35 +3,11 @@ use native.Mathlib.Omega.{arith}
 use Rattle.tree_pivot.proofs.excess_of.Statement.{statement}
 use Rattle.tree_pivot.proofs.excess_of.Tie as tie
 
-mul-result : tie.Need-mul-result
-mul-result c = omega arith
-
-shared-slice-read-result : tie.Need-shared-slice-read-result
-shared-slice-read-result c = omega arith
-
-mul-result-2 : tie.Need-mul-result-2
-mul-result-2 c = omega arith
-
-shared-slice-read-result-2 : tie.Need-shared-slice-read-result-2
-shared-slice-read-result-2 c = omega arith
-
 sub-result : tie.Need-sub-result
 sub-result c = omega (arith, rw (c .before .before .if1 .taken) at (c .before .before .before .pre .beyond))
 
 sub-result-2 : tie.Need-sub-result-2
 sub-result-2 c = omega (arith, rw (c .before .before .if1 .taken) at (c .before .before .before .pre .beyond))
-
-mul-result-3 : tie.Need-mul-result-3
-mul-result-3 c = omega arith
-
-shared-slice-read-result-3 : tie.Need-shared-slice-read-result-3
-shared-slice-read-result-3 c = omega arith
-
-mul-result-4 : tie.Need-mul-result-4
-mul-result-4 c = omega arith
-
-shared-slice-read-result-4 : tie.Need-shared-slice-read-result-4
-shared-slice-read-result-4 c = omega arith
 
 sub-result-3 : tie.Need-sub-result-3
 sub-result-3 c = omega (arith, rw (c .before .before .if1 .left) at (c .before .before .before .pre .beyond))
@@ -49,16 +25,16 @@ pub excess-of-spec : {M : Type 1} → statement M
 excess-of-spec =
     tie.close
     (tie.spec
-    mul-result
-    shared-slice-read-result
-    mul-result-2
-    shared-slice-read-result-2
+    (λ c. omega arith)
+    (λ c. omega arith)
+    (λ c. omega arith)
+    (λ c. omega arith)
     sub-result
     sub-result-2
-    mul-result-3
-    shared-slice-read-result-3
-    mul-result-4
-    shared-slice-read-result-4
+    (λ c. omega arith)
+    (λ c. omega arith)
+    (λ c. omega arith)
+    (λ c. omega arith)
     sub-result-3
     sub-result-4
     returns

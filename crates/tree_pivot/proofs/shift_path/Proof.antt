@@ -1,57 +1,67 @@
--- `shift_path` meets its contract. The invariant is that of a walk; the measure is the depth of y. Assumes nothing.
-use mathlib.Core.Path.{_≡_, _∙_}
+-- `shift_path` meets its contract. The invariant is that of a walk in each table; the measure is the depth of y. Assumes nothing.
 use native.Mathlib.Omega.{arith}
 use Rattle.arithmetic.specs.Table.{at}
 use Rattle.rooted_tree.specs.Chain.{depth}
-use Rattle.tree_pivot.specs.PathWalk.{Walking, walk-none, walk-more, walk-less, walk-end, walk-kept, walk-met}
-use Rattle.tree_pivot.specs.PivotTables.{shifted}
+use Rattle.tree_pivot.specs.PathWalk.{walk-none, walk-less, walk-end}
+use Rattle.tree_pivot.specs.PivotTables.{ShiftingPath, shifting-room, shifting-more}
 use Rattle.tree_pivot.proofs.shift_path.Statement.{statement}
 use Rattle.tree_pivot.proofs.shift_path.Tie as tie
 
 abbrev Inv-loop : tie.InvT-loop
-Inv-loop n root from stop rises d parents table₀ y₀ table y = Walking n (at parents) from stop (λ x k. k ≡ shifted rises d (at table₀ x)) table₀ table y
+Inv-loop n root from stop rises sent taken mask parents supply₀ demand₀ masks₀ y₀ supply demand masks y =
+    ShiftingPath n parents from stop rises sent supply₀ supply y
+    × ShiftingPath n parents from stop rises taken demand₀ demand y
+    × ShiftingPath n parents from stop rises mask masks₀ masks y
 
 abbrev μ-loop : tie.MeasureT-loop
-μ-loop n root from stop rises d parents table₀ y₀ table y = depth (at parents) root n y
+μ-loop n root from stop rises sent taken mask parents supply₀ demand₀ masks₀ y₀ supply demand masks y =
+    depth (at parents) root n y
 
 loop-holds : tie.Need-loop-holds Inv-loop μ-loop
-loop-holds c = walk-none (c .before .before .pre .walk) _ _
+loop-holds c = let s = c .before .before .before .before .pre in (walk-none (s .0 .walk) _ _, walk-none (s .1 .walk) _ _, walk-none (s .2 .walk) _ _)
 
-mul-shifted : tie.Need-mul-shifted Inv-loop μ-loop
-mul-shifted c = omega arith
+shift-requires : tie.Need-shift-requires Inv-loop μ-loop
+shift-requires c κs = shifting-room (c .before .before .before .before .before .before .before .pre .0) (c .before .before .loop .inv .0) (c .before .loop-test .taken)
 
-slice-read-shifted : tie.Need-slice-read-shifted Inv-loop μ-loop
-slice-read-shifted c = omega arith
+shift-requires-2 : tie.Need-shift-requires-2 Inv-loop μ-loop
+shift-requires-2 c κs = shifting-room (c .before .before .before .before .before .before .before .before .before .before .before .pre .1) (c .before .before .before .before .before .before .loop .inv .1) (c .before .before .before .before .before .loop-test .taken)
 
-shifted-requires : tie.Need-shifted-requires Inv-loop μ-loop
-shifted-requires c κs = rw (walk-kept (c .before .before .before .before .before .pre .walk) (c .before .before .loop .inv)) (c .before .before .before .before .before .pre .room _ (c .before .before .loop .inv .low) (walk-met (c .before .before .before .before .before .pre .walk) (c .before .before .loop .inv) (c .before .loop-test .taken)))
-
-mul-table : tie.Need-mul-table Inv-loop μ-loop
-mul-table c = omega arith
-
-slice-write-table : tie.Need-slice-write-table Inv-loop μ-loop
-slice-write-table c = omega arith
+shift-requires-3 : tie.Need-shift-requires-3 Inv-loop μ-loop
+shift-requires-3 c κs = shifting-room (c .before .before .before .before .before .before .before .before .before .before .before .before .before .before .before .pre .2) (c .before .before .before .before .before .before .before .before .before .before .loop .inv .2) (c .before .before .before .before .before .before .before .before .before .loop-test .taken)
 
 mul-y : tie.Need-mul-y Inv-loop μ-loop
-mul-y c = omega arith
+mul-y c = omega (arith, c .before .before .before .before .before .before .before .before .before .before .before .before .before .loop .inv .0 .low, c .before .before .before .before .before .before .before .before .before .before .before .before .before .before .before .before .before .before .pre .0 .size)
 
 shared-slice-read-y : tie.Need-shared-slice-read-y Inv-loop μ-loop
-shared-slice-read-y c = omega arith
+shared-slice-read-y c = omega (arith, c .before .before .before .before .before .before .before .before .before .before .before .before .before .before .loop .inv .0 .low, c .before .before .before .before .before .before .before .before .before .before .before .before .before .before .before .before .before .before .before .pre .0 .size)
 
 cast-y : tie.Need-cast-y Inv-loop μ-loop
-cast-y c = omega (arith, c .before .before .before .before .before .before .before .pre .walk .tree .into _ (c .before .before .before .before .loop .inv .low))
+cast-y c = omega (arith, c .before .before .before .before .before .before .before .before .before .before .before .before .before .before .before .before .before .before .before .pre .0 .walk .tree .into _ (c .before .before .before .before .before .before .before .before .before .before .before .before .before .before .loop .inv .0 .low))
 
 loop-less : tie.Need-loop-less Inv-loop μ-loop
-loop-less c = walk-less (c .before .before .before .before .before .before .before .pre .walk) (c .before .before .before .before .loop .inv) (c .before .before .before .loop-test .taken)
+loop-less c = walk-less (c .before .before .before .before .before .before .before .before .before .before .before .before .before .before .before .before .before .before .before .pre .0 .walk) (c .before .before .before .before .before .before .before .before .before .before .before .before .before .before .loop .inv .0) (c .before .before .before .before .before .before .before .before .before .before .before .before .before .loop-test .taken)
 
 loop-again : tie.Need-loop-again Inv-loop μ-loop
-loop-again c = walk-more (c .before .before .before .before .before .before .before .pre .walk) (c .before .before .before .before .loop .inv) (c .before .before .before .loop-test .taken) _ (c .before .before .before .before .before .before .before .pre .walk .fits) (c .before .shifted .ensures ∙ rw (walk-kept (c .before .before .before .before .before .before .before .pre .walk) (c .before .before .before .before .loop .inv)))
+loop-again c =
+    let s = c .before .before .before .before .before .before .before .before .before .before .before .before .before .before .before .before .before .before .before .pre in
+    let v = c .before .before .before .before .before .before .before .before .before .before .before .before .before .before .loop .inv in
+    let go = c .before .before .before .before .before .before .before .before .before .before .before .before .before .loop-test .taken in
+    (shifting-more (s .0) (v .0) go (c .before .before .before .before .before .before .before .before .before .before .before .shift .ensures), shifting-more (s .1) (v .1) go (c .before .before .before .before .before .before .before .shift2 .ensures), shifting-more (s .2) (v .2) go (c .before .before .before .shift3 .ensures))
 
 same-length : tie.Need-same-length Inv-loop μ-loop
-same-length c = c .before .loop .inv .stored .size
+same-length c = c .before .loop .inv .0 .stored .size
+
+same-length-2 : tie.Need-same-length-2 Inv-loop μ-loop
+same-length-2 c = c .before .loop .inv .1 .stored .size
+
+same-length-3 : tie.Need-same-length-3 Inv-loop μ-loop
+same-length-3 c = c .before .loop .inv .2 .stored .size
 
 returns : tie.Need-returns Inv-loop μ-loop
-returns c = walk-end (c .before .before .before .before .pre .walk) (c .before .loop .inv) (c .loop-test .left)
+returns c =
+    let s = c .before .before .before .before .before .before .pre in
+    let v = c .before .loop .inv in
+    (walk-end (s .0 .walk) (v .0) (c .loop-test .left), (walk-end (s .1 .walk) (v .1) (c .loop-test .left), walk-end (s .2 .walk) (v .2) (c .loop-test .left)))
 
 pub shift-path-spec : {M : Type 1} → statement M
 shift-path-spec =
@@ -60,15 +70,15 @@ shift-path-spec =
     Inv-loop
     μ-loop
     loop-holds
-    mul-shifted
-    slice-read-shifted
-    shifted-requires
-    mul-table
-    slice-write-table
+    shift-requires
+    shift-requires-2
+    shift-requires-3
     mul-y
     shared-slice-read-y
     cast-y
     loop-less
     loop-again
     same-length
+    same-length-2
+    same-length-3
     returns)

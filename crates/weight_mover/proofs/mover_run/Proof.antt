@@ -1,43 +1,34 @@
+use native.Mathlib.Nat.{mul-le-mul}
 use native.Mathlib.Omega.{arith}
-use mathlib.Core.Path.{_≡_, sym}
-use Rattle.weight_mover.specs.AnswerLaws.{root-below, answer-few, potentials-long, plan-long}
-use Rattle.weight_mover.specs.RunLaws.{run-refused, run-room, run-done}
 use Rattle.weight_mover.proofs.mover_run.Statement.{statement}
 use Rattle.weight_mover.proofs.mover_run.Tie as tie
 
-answer-image-requires : tie.Need-answer-image-requires
-answer-image-requires c κs = omega arith
+run-requires : tie.Need-run-requires
+run-requires c κs h =
+    let t : tie.Then1 = search in
+    let k : tie.After-is-small = search in
+    let few = k .is-small .ensures (t .if1 .taken) in
+    omega (arith, mul-le-mul few few)
 
 returns : tie.Need-returns
-returns c = run-refused _ (c .before .before .answer-image .ensures) (λ z. omega (arith, c .if1 .taken))
+returns c = let k : tie.After-run = search in k .run .ensures
 
-slice-aggregate-write-record : tie.Need-slice-aggregate-write-record
-slice-aggregate-write-record c = sym (potentials-long (c .before .before .before .answer-image .ensures) (omega (arith, c .before .if1 .left)) (omega arith))
-
-slice-aggregate-write-record-2 : tie.Need-slice-aggregate-write-record-2
-slice-aggregate-write-record-2 c = sym (plan-long (c .before .before .before .before .answer-image .ensures) (omega (arith, c .before .before .if1 .left)) (omega arith))
-
-write-record-requires : tie.Need-write-record-requires
-write-record-requires c κs =
-    let a = c .before .before .before .before .before .answer-image .ensures in
-    let z : c .before .before .before .before .before .answer-image .result .refusal ≡ 0 = omega (arith, c .before .before .before .if1 .left) in
-    let few = answer-few a z in
-    (few .0, root-below a z, omega (arith, potentials-long a z (omega arith)), omega (arith, plan-long a z (omega arith)), run-room (c .before .before .before .before .before .before .before .before .before .before .args .buffer .now) a z)
-
-same-length : tie.Need-same-length
-same-length c = omega arith
+run-requires-2 : tie.Need-run-requires-2
+run-requires-2 c κs h = omega (arith, mul-le-mul h h)
 
 returns-2 : tie.Need-returns-2
-returns-2 c = run-done _ (c .before .before .before .before .before .before .before .before .answer-image .ensures) (omega (arith, c .before .before .before .before .before .before .if1 .left)) (c .before .before .write-record .ensures)
+returns-2 c = let k : tie.After-run2 = search in k .run2 .ensures
 
 pub mover-run-spec : {M : Type 1} → statement M
 mover-run-spec =
     tie.close
     (tie.spec
-    answer-image-requires
+    (λ c κs. omega arith)
+    (λ c. omega arith)
+    run-requires
+    (λ c. omega arith)
     returns
-    slice-aggregate-write-record
-    slice-aggregate-write-record-2
-    write-record-requires
-    same-length
+    (λ c. omega arith)
+    run-requires-2
+    (λ c. omega arith)
     returns-2)

@@ -27,25 +27,10 @@ add-get-two c = omega (arith, c .before .before .before .before .pre .1 (c .befo
 get-two-requires : tie.Need-get-two-requires Inv-loop μ-loop
 get-two-requires c κs = omega (arith, c .before .before .before .before .pre .1 (c .before .loop .e) (c .loop-test .taken))
 
-mul-out : tie.Need-mul-out Inv-loop μ-loop
-mul-out c = omega arith
-
-slice-write-out : tie.Need-slice-write-out Inv-loop μ-loop
-slice-write-out c = omega arith
-
-add-e : tie.Need-add-e Inv-loop μ-loop
-add-e c = omega arith
-
-loop-less : tie.Need-loop-less Inv-loop μ-loop
-loop-less c = omega arith
-
 loop-again : tie.Need-loop-again Inv-loop μ-loop
 loop-again c =
     let l = c .before .before .loop .inv in
     (omega arith, (simp length-set (l .1 .0), tab-store _ _ _ _ _ (omega arith) (l .1 .1) (c .get-two .ensures .0)))
-
-same-length : tie.Need-same-length Inv-loop μ-loop
-same-length c = omega arith
 
 returns : tie.Need-returns Inv-loop μ-loop
 returns c =
@@ -61,10 +46,10 @@ fill-twos-spec =
     mul-get-two
     add-get-two
     get-two-requires
-    mul-out
-    slice-write-out
-    add-e
-    loop-less
+    (λ c. omega arith)
+    (λ c. omega arith)
+    (λ c. omega arith)
+    (λ c. omega arith)
     loop-again
-    same-length
+    (λ c. omega arith)
     returns)

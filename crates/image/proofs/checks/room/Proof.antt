@@ -1,16 +1,17 @@
 -- `room` meets its contract.
-use Rattle.image.proofs.Cases.{first-short, second-short, third-left}
+use mathlib.Core.Path.{sym}
+use Rattle.image.proofs.Tests.{tests}
 use Rattle.image.proofs.checks.room.Statement.{statement}
 use Rattle.image.proofs.checks.room.Tie as tie
 
 returns : tie.Need-returns
-returns c = first-short _ _ _ _ (c .if1 .taken)
+returns c = sym (search tests)
 
 returns-2 : tie.Need-returns-2
-returns-2 c = second-short _ _ _ _ (c .if2 .taken)
+returns-2 c = sym (search tests)
 
 returns-3 : tie.Need-returns-3
-returns-3 c = third-left _ _ _ _ (c .before .if1 .left) (c .if2 .left)
+returns-3 c = sym (search tests)
 
 pub room-spec : {M : Type 1} → statement M
 room-spec = tie.close (tie.spec returns returns-2 returns-3)

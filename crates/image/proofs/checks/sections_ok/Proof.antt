@@ -18,19 +18,10 @@ abbrev μ-loop : tie.MeasureT-loop
 loop-holds : tie.Need-loop-holds Inv-loop μ-loop
 loop-holds c = (omega arith, all-none _)
 
-section-ok-requires : tie.Need-section-ok-requires Inv-loop μ-loop
-section-ok-requires c κs = omega arith
-
 returns : tie.Need-returns Inv-loop μ-loop
 returns c =
     let l = c .before .before in
     sym (all-fails _ _ (l .before .loop .t) (l .loop-test .taken) (sym (c .before .section-ok .ensures) ∙ not-true _ (c .if1 .taken)))
-
-add-t : tie.Need-add-t Inv-loop μ-loop
-add-t c = omega arith
-
-loop-less : tie.Need-loop-less Inv-loop μ-loop
-loop-less c = omega arith
 
 loop-again : tie.Need-loop-again Inv-loop μ-loop
 loop-again c =
@@ -46,9 +37,9 @@ sections-ok-spec =
     Inv-loop
     μ-loop
     loop-holds
-    section-ok-requires
+    (λ c κs. omega arith)
     returns
-    add-t
-    loop-less
+    (λ c. omega arith)
+    (λ c. omega arith)
     loop-again
     returns-2)

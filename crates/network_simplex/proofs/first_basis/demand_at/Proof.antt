@@ -4,18 +4,6 @@ use native.Mathlib.Omega.{arith}
 use Rattle.network_simplex.proofs.first_basis.demand_at.Statement.{statement}
 use Rattle.network_simplex.proofs.first_basis.demand_at.Tie as tie
 
-mul-result : tie.Need-mul-result
-mul-result c = omega arith
-
-sub-result : tie.Need-sub-result
-sub-result c = omega arith
-
-add-result : tie.Need-add-result
-add-result c = omega arith
-
-mul-result-2 : tie.Need-mul-result-2
-mul-result-2 c = omega arith
-
 returns : tie.Need-returns
 returns c = rw (eq-eqb _ _ (c .if1 .taken)) (omega arith)
 
@@ -24,4 +12,4 @@ returns-2 c = rw (ne-eqb _ _ (c .if1 .left)) (omega arith)
 
 pub demand-at-spec : {M : Type 1} → statement M
 demand-at-spec =
-    tie.close (tie.spec mul-result sub-result add-result mul-result-2 returns returns-2)
+    tie.close (tie.spec (λ c. omega arith) (λ c. omega arith) (λ c. omega arith) (λ c. omega arith) returns returns-2)

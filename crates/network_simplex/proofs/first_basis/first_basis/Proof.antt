@@ -16,21 +16,6 @@ potential-requires c κs = let p = c .before .before .before .before .before .be
     let t = c .before .before .before .before .before .before .before .before .before .before .tables-below .ensures in
     (has-potential (p .0 .can) (c .before .before .before .before .before .before .before .before .before .before .before .before .before .before .before .before .lengths-above .ensures) (p .1 .above-size) (t .0 .size ∙ p .1 .supply-size) (t .1 .0 .size ∙ p .1 .demand-size), omega (arith, vertices (p .0 .can), p .1 .potential-size))
 
-same-length : tie.Need-same-length
-same-length c = search needs
-
-same-length-2 : tie.Need-same-length-2
-same-length-2 c = search needs
-
-same-length-3 : tie.Need-same-length-3
-same-length-3 c = search needs
-
-same-length-4 : tie.Need-same-length-4
-same-length-4 c = search needs
-
-same-length-5 : tie.Need-same-length-5
-same-length-5 c = search needs
-
 returns : tie.Need-returns
 returns c = λ a b can. first-basis can (c .before .before .before .before .before .before .before .before .before .before .before .before .before .before .before .before .before .before .before .lengths-above .ensures) (c .before .before .before .before .before .before .before .before .before .before .before .before .before .before .before .before .before .before .before .before .before .before .before .before .before .before .before .before .before .before .before .pre .1) (c .before .before .before .before .before .before .before .before .before .before .before .before .before .tables-below .ensures) (c .before .before .potential .ensures .0) (c .before .before .potential .ensures .1)
 
@@ -41,9 +26,9 @@ first-basis-spec =
     lengths-above-requires
     tables-below-requires
     potential-requires
-    same-length
-    same-length-2
-    same-length-3
-    same-length-4
-    same-length-5
+    (λ c. search needs)
+    (λ c. search needs)
+    (λ c. search needs)
+    (λ c. search needs)
+    (λ c. search needs)
     returns)

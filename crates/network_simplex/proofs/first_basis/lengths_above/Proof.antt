@@ -14,12 +14,6 @@ abbrev μ-loop : tie.MeasureT-loop
 loop-holds : tie.Need-loop-holds Inv-loop μ-loop
 loop-holds c = (omega arith, (omega arith, above-none _ _ _))
 
-mul-out : tie.Need-mul-out Inv-loop μ-loop
-mul-out c = omega arith
-
-shared-slice-read-out : tie.Need-shared-slice-read-out Inv-loop μ-loop
-shared-slice-read-out c = omega arith
-
 cast-out : tie.Need-cast-out Inv-loop μ-loop
 cast-out c = omega (arith, c .shared-slice-known .given (c .before .before .loop .x))
 
@@ -29,17 +23,8 @@ mul-out-2 c = omega (arith, c .before .before .before .pre .number (c .before .b
 shared-slice-read-out-2 : tie.Need-shared-slice-read-out-2 Inv-loop μ-loop
 shared-slice-read-out-2 c = omega (arith, c .before .before .before .before .pre .number (c .before .before .before .loop .x) (c .before .before .loop-test .taken) (λ e. omega arith))
 
-mul-out-3 : tie.Need-mul-out-3 Inv-loop μ-loop
-mul-out-3 c = omega arith
-
 slice-write-out : tie.Need-slice-write-out Inv-loop μ-loop
 slice-write-out c = omega (arith, c .before .before .before .loop .inv .1 .1 .size)
-
-add-x : tie.Need-add-x Inv-loop μ-loop
-add-x c = omega arith
-
-loop-less : tie.Need-loop-less Inv-loop μ-loop
-loop-less c = omega arith
 
 loop-again : tie.Need-loop-again Inv-loop μ-loop
 loop-again c = (omega arith, (omega arith, above-more (c .before .before .before .before .args .lengths .now) (c .before .before .before .before .args .edge .now) _ (c .before .before .before .loop .out) _ (omega arith) (c .before .before .before .loop .inv .1 .1)))
@@ -52,4 +37,4 @@ returns c = above-end _ _ _ _ _ _ (c .loop-test .left) (c .before .loop .inv .1 
 
 pub lengths-above-spec : {M : Type 1} → statement M
 lengths-above-spec =
-    tie.close (tie.spec Inv-loop μ-loop loop-holds mul-out shared-slice-read-out cast-out mul-out-2 shared-slice-read-out-2 mul-out-3 slice-write-out add-x loop-less loop-again same-length returns)
+    tie.close (tie.spec Inv-loop μ-loop loop-holds (λ c. omega arith) (λ c. omega arith) cast-out mul-out-2 shared-slice-read-out-2 (λ c. omega arith) slice-write-out (λ c. omega arith) (λ c. omega arith) loop-again same-length returns)

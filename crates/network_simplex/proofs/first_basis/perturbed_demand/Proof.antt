@@ -17,26 +17,11 @@ abbrev μ-loop : tie.MeasureT-loop
 loop-holds : tie.Need-loop-holds Inv-loop μ-loop
 loop-holds c = (omega arith, filled-none _ _)
 
-mul-demand-at : tie.Need-mul-demand-at Inv-loop μ-loop
-mul-demand-at c = omega arith
-
-shared-slice-read-demand-at : tie.Need-shared-slice-read-demand-at Inv-loop μ-loop
-shared-slice-read-demand-at c = omega arith
-
 demand-at-requires : tie.Need-demand-at-requires Inv-loop μ-loop
 demand-at-requires c κs = (omega arith, (omega arith, c .before .before .before .before .before .pre .small _ (c .before .loop-test .taken)))
 
-mul-out : tie.Need-mul-out Inv-loop μ-loop
-mul-out c = omega arith
-
 slice-write-out : tie.Need-slice-write-out Inv-loop μ-loop
 slice-write-out c = omega (arith, c .before .before .before .loop .inv .1 .size)
-
-add-y : tie.Need-add-y Inv-loop μ-loop
-add-y c = omega arith
-
-loop-less : tie.Need-loop-less Inv-loop μ-loop
-loop-less c = omega arith
 
 loop-again : tie.Need-loop-again Inv-loop μ-loop
 loop-again c = (omega arith, filled-more _ _ _ (c .before .before .before .loop .out) _ (omega arith) (c .before .before .before .loop .inv .1) (c .demand-at .ensures))
@@ -49,4 +34,4 @@ returns c = let e : c .before .loop .y ≡ c .before .before .before .before .ar
 
 pub perturbed-demand-spec : {M : Type 1} → statement M
 perturbed-demand-spec =
-    tie.close (tie.spec Inv-loop μ-loop loop-holds mul-demand-at shared-slice-read-demand-at demand-at-requires mul-out slice-write-out add-y loop-less loop-again same-length returns)
+    tie.close (tie.spec Inv-loop μ-loop loop-holds (λ c. omega arith) (λ c. omega arith) demand-at-requires (λ c. omega arith) slice-write-out (λ c. omega arith) (λ c. omega arith) loop-again same-length returns)

@@ -17,26 +17,11 @@ abbrev μ-loop : tie.MeasureT-loop
 loop-holds : tie.Need-loop-holds Inv-loop μ-loop
 loop-holds c = (omega arith, filled-none _ _)
 
-mul-supply-at : tie.Need-mul-supply-at Inv-loop μ-loop
-mul-supply-at c = omega arith
-
-shared-slice-read-supply-at : tie.Need-shared-slice-read-supply-at Inv-loop μ-loop
-shared-slice-read-supply-at c = omega arith
-
 supply-at-requires : tie.Need-supply-at-requires Inv-loop μ-loop
 supply-at-requires c κs = c .before .before .before .before .before .pre .small _ (c .before .loop-test .taken)
 
-mul-out : tie.Need-mul-out Inv-loop μ-loop
-mul-out c = omega arith
-
 slice-write-out : tie.Need-slice-write-out Inv-loop μ-loop
 slice-write-out c = omega (arith, c .before .before .before .loop .inv .1 .size)
-
-add-y : tie.Need-add-y Inv-loop μ-loop
-add-y c = omega arith
-
-loop-less : tie.Need-loop-less Inv-loop μ-loop
-loop-less c = omega arith
 
 loop-again : tie.Need-loop-again Inv-loop μ-loop
 loop-again c = (omega arith, filled-more _ _ _ (c .before .before .before .loop .out) _ (omega arith) (c .before .before .before .loop .inv .1) (c .supply-at .ensures))
@@ -49,4 +34,4 @@ returns c = let e : c .before .loop .y ≡ c .before .before .before .before .ar
 
 pub perturbed-supply-spec : {M : Type 1} → statement M
 perturbed-supply-spec =
-    tie.close (tie.spec Inv-loop μ-loop loop-holds mul-supply-at shared-slice-read-supply-at supply-at-requires mul-out slice-write-out add-y loop-less loop-again same-length returns)
+    tie.close (tie.spec Inv-loop μ-loop loop-holds (λ c. omega arith) (λ c. omega arith) supply-at-requires (λ c. omega arith) slice-write-out (λ c. omega arith) (λ c. omega arith) loop-again same-length returns)

@@ -18,18 +18,6 @@ loop-holds c = (omega arith, (refl, to-none (c .before .before .before .before .
 potential-of-requires : tie.Need-potential-of-requires Inv-loop μ-loop
 potential-of-requires c κs = (c .before .before .before .before .before .before .before .pre .0, omega arith)
 
-mul-out : tie.Need-mul-out Inv-loop μ-loop
-mul-out c = omega arith
-
-slice-write-out : tie.Need-slice-write-out Inv-loop μ-loop
-slice-write-out c = omega arith
-
-add-y : tie.Need-add-y Inv-loop μ-loop
-add-y c = omega arith
-
-loop-less : tie.Need-loop-less Inv-loop μ-loop
-loop-less c = omega arith
-
 loop-again : tie.Need-loop-again Inv-loop μ-loop
 loop-again c = (
   omega arith,
@@ -38,9 +26,6 @@ loop-again c = (
     to-more (c .before .before .before .before .before .before .before .before .pre .0) _ _ (c .before .before .loop .out) (omega arith) (c .potential-of .ensures) (c .before .before .loop .inv .1 .1),
   ),
 )
-
-same-length : tie.Need-same-length Inv-loop μ-loop
-same-length c = omega arith
 
 returns : tie.Need-returns Inv-loop μ-loop
 returns c = (c .before .loop .inv .1 .0, to-end (c .before .before .before .before .before .before .before .pre .0) _ _ (c .loop-test .left) (c .before .loop .inv .1 .1))
@@ -53,10 +38,10 @@ potential-spec =
     μ-loop
     loop-holds
     potential-of-requires
-    mul-out
-    slice-write-out
-    add-y
-    loop-less
+    (λ c. omega arith)
+    (λ c. omega arith)
+    (λ c. omega arith)
+    (λ c. omega arith)
     loop-again
-    same-length
+    (λ c. omega arith)
     returns)

@@ -11,12 +11,6 @@ join-vertex-requires c κs = exchange-join (c .before .before .before .before .b
 leaving-vertex-requires : tie.Need-leaving-vertex-requires
 leaving-vertex-requires c κs = exchange-leave (c .before .before .before .before .before .before .before .before .before .before .before .before .pre .can) (c .before .before .before .join-vertex .ensures)
 
-choose-requires : tie.Need-choose-requires
-choose-requires c κs = omega arith
-
-choose-requires-2 : tie.Need-choose-requires-2
-choose-requires-2 c κs = omega arith
-
 pivot-requires : tie.Need-pivot-requires
 pivot-requires c κs = record { g = c .before .before .before .before .before .before .before .before .before .before .before .before .before .before .before .before .before .before .before .before .before .pre .g; m = c .before .before .before .before .before .before .before .before .before .before .before .before .before .before .before .before .before .before .before .before .before .pre .m; v = c .before .before .before .before .before .before .before .before .before .before .before .before .before .before .before .before .before .before .before .before .before .pre .v; can = exchange-pivots (c .before .before .before .before .before .before .before .before .before .before .before .before .before .before .before .before .before .before .before .before .before .pre .can) _ (c .before .before .before .before .before .before .before .before .leaving-vertex .ensures) (c .before .before .before .before .before .before .before .choose .ensures) (c .before .before .before .before .before .before .choose2 .ensures); join-is = exchange-joins (c .before .before .before .before .before .before .before .before .leaving-vertex .result .rises) (c .before .before .before .before .before .before .before .before .before .before .before .before .join-vertex .ensures) (c .before .before .before .before .before .before .before .choose .ensures) (c .before .before .before .before .before .before .choose2 .ensures) }
 
@@ -43,4 +37,4 @@ returns c = λ g m v can. c .before .before .before .before .before .before .bef
 
 pub exchange-spec : {M : Type 1} → statement M
 exchange-spec =
-    tie.close (tie.spec join-vertex-requires leaving-vertex-requires choose-requires choose-requires-2 pivot-requires same-length same-length-2 same-length-3 same-length-4 same-length-5 same-length-6 returns)
+    tie.close (tie.spec join-vertex-requires leaving-vertex-requires (λ c κs. omega arith) (λ c κs. omega arith) pivot-requires same-length same-length-2 same-length-3 same-length-4 same-length-5 same-length-6 returns)

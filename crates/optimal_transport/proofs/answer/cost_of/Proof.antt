@@ -3,12 +3,6 @@ use borrow.Author.Needs.{needs}
 use Rattle.optimal_transport.proofs.answer.cost_of.Statement.{statement}
 use Rattle.optimal_transport.proofs.answer.cost_of.Tie as tie
 
-slice-aggregate-evaluate-tree : tie.Need-slice-aggregate-evaluate-tree
-slice-aggregate-evaluate-tree c = search needs
-
-slice-aggregate-evaluate-tree-2 : tie.Need-slice-aggregate-evaluate-tree-2
-slice-aggregate-evaluate-tree-2 c = search needs
-
 evaluate-tree-requires : tie.Need-evaluate-tree-requires
 evaluate-tree-requires c κs = c .before .before .before .before .before .pre _ _ (omega arith) (omega arith)
 
@@ -19,7 +13,7 @@ pub cost-of-spec : {M : Type 1} → statement M
 cost-of-spec =
     tie.close
     (tie.spec
-    slice-aggregate-evaluate-tree
-    slice-aggregate-evaluate-tree-2
+    (λ c. search needs)
+    (λ c. search needs)
     evaluate-tree-requires
     returns)

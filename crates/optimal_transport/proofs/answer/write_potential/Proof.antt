@@ -20,17 +20,8 @@ abbrev μ-loop : tie.MeasureT-loop
 loop-holds : tie.Need-loop-holds Inv-loop μ-loop
 loop-holds c = (omega arith, (refl, tab-none _ _))
 
-mul-difference : tie.Need-mul-difference Inv-loop μ-loop
-mul-difference c = omega arith
-
-shared-slice-read-difference : tie.Need-shared-slice-read-difference Inv-loop μ-loop
-shared-slice-read-difference c = omega arith
-
 cast-difference : tie.Need-cast-difference Inv-loop μ-loop
 cast-difference c = omega (arith, c .shared-slice-known2 .given (c .before .before .loop .y), c .shared-slice-known2 .given 0)
-
-shared-slice-read-difference-2 : tie.Need-shared-slice-read-difference-2 Inv-loop μ-loop
-shared-slice-read-difference-2 c = omega arith
 
 cast-difference-2 : tie.Need-cast-difference-2 Inv-loop μ-loop
 cast-difference-2 c = omega (arith, c .shared-slice-known3 .given (c .before .before .before .loop .y), c .shared-slice-known3 .given 0)
@@ -42,24 +33,9 @@ difference-requires c κs = let s = c .before .before .before .before .before in
     let of-0 = s .pre .1 0 (omega arith) in
     (omega (arith, of-y, of-0), omega (arith, of-y, of-0))
 
-mul-t14 : tie.Need-mul-t14 Inv-loop μ-loop
-mul-t14 c = omega arith
-
-slice-set-from-potential : tie.Need-slice-set-from-potential Inv-loop μ-loop
-slice-set-from-potential c = omega arith
-
-add-y : tie.Need-add-y Inv-loop μ-loop
-add-y c = omega arith
-
-loop-less : tie.Need-loop-less Inv-loop μ-loop
-loop-less c = omega arith
-
 loop-again : tie.Need-loop-again Inv-loop μ-loop
 loop-again c = let l = c .before .before .before .before .loop in
     (omega arith, (simp length-set (l .inv .1 .0), tab-store _ _ _ _ _ (omega arith) (l .inv .1 .1) (toZ-ofZ w32 _ (record { sfits = c .difference .ok }) ∙ c .difference .ensures)))
-
-same-length : tie.Need-same-length Inv-loop μ-loop
-same-length c = omega arith
 
 returns : tie.Need-returns Inv-loop μ-loop
 returns c = let e : c .before .loop .y ≡ c .before .before .before .args .n = omega arith in rw e at (c .before .loop .inv .1 .1)
@@ -71,16 +47,16 @@ write-potential-spec =
     Inv-loop
     μ-loop
     loop-holds
-    mul-difference
-    shared-slice-read-difference
+    (λ c. omega arith)
+    (λ c. omega arith)
     cast-difference
-    shared-slice-read-difference-2
+    (λ c. omega arith)
     cast-difference-2
     difference-requires
-    mul-t14
-    slice-set-from-potential
-    add-y
-    loop-less
+    (λ c. omega arith)
+    (λ c. omega arith)
+    (λ c. omega arith)
+    (λ c. omega arith)
     loop-again
-    same-length
+    (λ c. omega arith)
     returns)

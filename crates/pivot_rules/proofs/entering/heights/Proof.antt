@@ -16,38 +16,11 @@ abbrev μ-loop : tie.MeasureT-loop
 loop-holds : tie.Need-loop-holds Inv-loop μ-loop
 loop-holds c = (omega arith, filled-none _ _)
 
-mul-height-of : tie.Need-mul-height-of Inv-loop μ-loop
-mul-height-of c = omega arith
-
-shared-slice-read-height-of : tie.Need-shared-slice-read-height-of Inv-loop μ-loop
-shared-slice-read-height-of c = omega arith
-
-mul-height-of-2 : tie.Need-mul-height-of-2 Inv-loop μ-loop
-mul-height-of-2 c = omega arith
-
-shared-slice-read-height-of-2 : tie.Need-shared-slice-read-height-of-2 Inv-loop μ-loop
-shared-slice-read-height-of-2 c = omega arith
-
-mul-height-of-3 : tie.Need-mul-height-of-3 Inv-loop μ-loop
-mul-height-of-3 c = omega arith
-
-shared-slice-read-height-of-3 : tie.Need-shared-slice-read-height-of-3 Inv-loop μ-loop
-shared-slice-read-height-of-3 c = omega arith
-
 height-of-requires : tie.Need-height-of-requires Inv-loop μ-loop
 height-of-requires c κs = let s = c .before .before .before .before .before .before .before .before .before in let l = c .before .before .before .loop-test .taken in (s .pre .small _ l, s .pre .light _ l)
 
-mul-out : tie.Need-mul-out Inv-loop μ-loop
-mul-out c = omega arith
-
 slice-write-out : tie.Need-slice-write-out Inv-loop μ-loop
 slice-write-out c = omega (arith, c .before .before .before .before .before .loop .inv .1 .size)
-
-add-x : tie.Need-add-x Inv-loop μ-loop
-add-x c = omega arith
-
-loop-less : tie.Need-loop-less Inv-loop μ-loop
-loop-less c = omega arith
 
 loop-again : tie.Need-loop-again Inv-loop μ-loop
 loop-again c = (omega arith, filled-more _ _ _ (c .before .before .before .before .before .loop .out) _ (omega arith) (c .before .before .before .before .before .loop .inv .1) (c .height-of .ensures))
@@ -65,17 +38,17 @@ heights-spec =
     Inv-loop
     μ-loop
     loop-holds
-    mul-height-of
-    shared-slice-read-height-of
-    mul-height-of-2
-    shared-slice-read-height-of-2
-    mul-height-of-3
-    shared-slice-read-height-of-3
+    (λ c. omega arith)
+    (λ c. omega arith)
+    (λ c. omega arith)
+    (λ c. omega arith)
+    (λ c. omega arith)
+    (λ c. omega arith)
     height-of-requires
-    mul-out
+    (λ c. omega arith)
     slice-write-out
-    add-x
-    loop-less
+    (λ c. omega arith)
+    (λ c. omega arith)
     loop-again
     same-length
     returns)

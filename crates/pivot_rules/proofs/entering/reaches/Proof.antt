@@ -17,26 +17,11 @@ abbrev μ-loop : tie.MeasureT-loop
 loop-holds : tie.Need-loop-holds Inv-loop μ-loop
 loop-holds c = (omega arith, filled-none _ _)
 
-mul-reach-of : tie.Need-mul-reach-of Inv-loop μ-loop
-mul-reach-of c = omega arith
-
-shared-slice-read-reach-of : tie.Need-shared-slice-read-reach-of Inv-loop μ-loop
-shared-slice-read-reach-of c = omega arith
-
 reach-of-requires : tie.Need-reach-of-requires Inv-loop μ-loop
 reach-of-requires c κs = c .before .before .before .before .before .pre .short _ (c .before .loop-test .taken)
 
-mul-out : tie.Need-mul-out Inv-loop μ-loop
-mul-out c = omega arith
-
 slice-write-out : tie.Need-slice-write-out Inv-loop μ-loop
 slice-write-out c = omega (arith, c .before .before .before .loop .inv .1 .size)
-
-add-e : tie.Need-add-e Inv-loop μ-loop
-add-e c = omega arith
-
-loop-less : tie.Need-loop-less Inv-loop μ-loop
-loop-less c = omega arith
 
 loop-again : tie.Need-loop-again Inv-loop μ-loop
 loop-again c = (omega arith, filled-more _ _ _ (c .before .before .before .loop .out) _ (omega arith) (c .before .before .before .loop .inv .1) (c .reach-of .ensures))
@@ -54,13 +39,13 @@ reaches-spec =
     Inv-loop
     μ-loop
     loop-holds
-    mul-reach-of
-    shared-slice-read-reach-of
+    (λ c. omega arith)
+    (λ c. omega arith)
     reach-of-requires
-    mul-out
+    (λ c. omega arith)
     slice-write-out
-    add-e
-    loop-less
+    (λ c. omega arith)
+    (λ c. omega arith)
     loop-again
     same-length
     returns)

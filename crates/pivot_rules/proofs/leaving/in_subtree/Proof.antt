@@ -4,11 +4,8 @@ use Prim.Native.Nat.{_/_, _^_}
 use Rattle.pivot_rules.proofs.leaving.in_subtree.Statement.{statement}
 use Rattle.pivot_rules.proofs.leaving.in_subtree.Tie as tie
 
-shr-result : tie.Need-shr-result
-shr-result c = omega arith
-
 returns : tie.Need-returns
 returns c = rw (and-mask (c .args .mask / 2 ^ c .args .y) 1)
 
 pub in-subtree-spec : {M : Type 1} → statement M
-in-subtree-spec = tie.close (tie.spec shr-result returns)
+in-subtree-spec = tie.close (tie.spec (λ c. omega arith) returns)

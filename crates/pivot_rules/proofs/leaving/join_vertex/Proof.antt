@@ -16,21 +16,6 @@ abbrev μ-loop : tie.MeasureT-loop
 loop-holds : tie.Need-loop-holds Inv-loop μ-loop
 loop-holds c = join-none (c .before .before .pre)
 
-mul-in-subtree : tie.Need-mul-in-subtree Inv-loop μ-loop
-mul-in-subtree c = omega arith
-
-shared-slice-read-in-subtree : tie.Need-shared-slice-read-in-subtree Inv-loop μ-loop
-shared-slice-read-in-subtree c = omega arith
-
-in-subtree-requires : tie.Need-in-subtree-requires Inv-loop μ-loop
-in-subtree-requires c κs = omega arith
-
-mul-x : tie.Need-mul-x Inv-loop μ-loop
-mul-x c = omega arith
-
-shared-slice-read-x : tie.Need-shared-slice-read-x Inv-loop μ-loop
-shared-slice-read-x c = omega arith
-
 cast-x : tie.Need-cast-x Inv-loop μ-loop
 cast-x c = omega (arith, c .shared-slice-known4 .given (c .before .before .before .before .loop .x))
 
@@ -50,11 +35,11 @@ join-vertex-spec =
     Inv-loop
     μ-loop
     loop-holds
-    mul-in-subtree
-    shared-slice-read-in-subtree
-    in-subtree-requires
-    mul-x
-    shared-slice-read-x
+    (λ c. omega arith)
+    (λ c. omega arith)
+    (λ c κs. omega arith)
+    (λ c. omega arith)
+    (λ c. omega arith)
     cast-x
     loop-less
     loop-again

@@ -18,12 +18,6 @@ loop-holds c = walk-none (c .before .before .before .pre .tree) (c .before .befo
 flow-up-requires : tie.Need-flow-up-requires Inv-loop μ-loop
 flow-up-requires c κs = (omega arith, omega arith)
 
-mul-x : tie.Need-mul-x Inv-loop μ-loop
-mul-x c = omega arith
-
-shared-slice-read-x : tie.Need-shared-slice-read-x Inv-loop μ-loop
-shared-slice-read-x c = omega arith
-
 cast-x : tie.Need-cast-x Inv-loop μ-loop
 cast-x c = omega (arith, c .shared-slice-known4 .given (c .before .before .before .before .loop .x))
 
@@ -48,8 +42,8 @@ least-flow-spec =
     μ-loop
     loop-holds
     flow-up-requires
-    mul-x
-    shared-slice-read-x
+    (λ c. omega arith)
+    (λ c. omega arith)
     cast-x
     loop-less
     loop-again

@@ -19,20 +19,8 @@ loop-holds c = (omega arith, (refl, (refl, λ n m. m)))
 settle-edge-requires : tie.Need-settle-edge-requires Inv-loop μ-loop
 settle-edge-requires c κs = let s = c .before .before .before .before .before .before .before .before .before .before .before .before .pre in ((s .0, (c .before .before .before .loop .inv .1 .1 .1 (s .0) (s .1 .0), s .1 .1)), c .before .before .loop-test .taken)
 
-add-e : tie.Need-add-e Inv-loop μ-loop
-add-e c = omega arith
-
-loop-less : tie.Need-loop-less Inv-loop μ-loop
-loop-less c = omega arith
-
 loop-again : tie.Need-loop-again Inv-loop μ-loop
 loop-again c = let l = c .before .before .before .before .before .before .before .before .loop in (omega arith, (omega (arith, l .inv .1 .0), (omega (arith, l .inv .1 .1 .0), λ n m. c .before .before .before .before .settle-edge .ensures n (l .inv .1 .1 .1 n m))))
-
-same-length : tie.Need-same-length Inv-loop μ-loop
-same-length c = omega arith
-
-same-length-2 : tie.Need-same-length-2 Inv-loop μ-loop
-same-length-2 c = omega arith
 
 returns : tie.Need-returns Inv-loop μ-loop
 returns c = c .before .loop .inv .1 .1 .1
@@ -45,9 +33,9 @@ settle-ties-spec =
     μ-loop
     loop-holds
     settle-edge-requires
-    add-e
-    loop-less
+    (λ c. omega arith)
+    (λ c. omega arith)
     loop-again
-    same-length
-    same-length-2
+    (λ c. omega arith)
+    (λ c. omega arith)
     returns)

@@ -1,54 +1,69 @@
+use mathlib.Core.Path.{sym, _∙_}
 use native.Mathlib.Omega.{arith}
-use Rattle.graph.specs.Accepted.{vertices-in}
-use Rattle.spanning_tree.specs.Given.{given}
-use Rattle.spanning_tree.specs.GivenLaws.{first-passed, graph-refused, measures-refused, tree-checked, edges-accepted}
+use borrow.Author.Needs.{needs}
+use Rattle.arithmetic.specs.Refusal.{refusals}
+use Rattle.graph.specs.Accepted.{vertices-in, graph-passed, graph-numbered}
+use Rattle.tree_checks.specs.Totals.{measures-numbered}
+use Rattle.spanning_tree.specs.GivenLaws.{tables-in, edges-accepted, given-refused}
 use Rattle.spanning_tree.proofs.given.given_refusal.Statement.{statement}
 use Rattle.spanning_tree.proofs.given.given_refusal.Tie as tie
 
-tables-fit-requires : tie.Need-tables-fit-requires
-tables-fit-requires c κs = omega arith
-
-slice-aggregate-check : tie.Need-slice-aggregate-check
-slice-aggregate-check c = omega arith
-
-slice-aggregate-check-2 : tie.Need-slice-aggregate-check-2
-slice-aggregate-check-2 c = omega arith
-
-check-requires : tie.Need-check-requires
-check-requires c κs = omega arith
-
 returns : tie.Need-returns
-returns c = graph-refused _ _ _ (c .before .before .before .before .before .before .tables-fit .ensures) (c .before .before .before .check .ensures .number) (c .if1 .taken)
+returns c =
+    let t : tie.After-tables-fit = search in
+    given-refused (rw (← t .tables-fit .ensures) (search (refusals, graph-numbered, measures-numbered))) (search)
 
 measures-refusal-requires : tie.Need-measures-refusal-requires
-measures-refusal-requires c κs = let k = first-passed _ (let s = c .before .before .before .before .before .before .before .before .before .before .before .before .before .before .args in given (s .mu .now) (s .nu .now) (s .root) (s .parents .now)) _ (c .before .before .before .before .before .before .tables-fit .ensures) (c .before .before .before .check .ensures .number) (c .if1 .left) in
+measures-refusal-requires c κs =
+    let t : tie.After-tables-fit = search in
+    let k : tie.After-check = search in
+    let p = graph-passed _ _ (sym (k .check .ensures .number) ∙ (search)) in
+    let l = tables-in _ _ _ _ _ (sym (t .tables-fit .ensures) ∙ p .1) in
     omega arith
 
 returns-2 : tie.Need-returns-2
-returns-2 c = measures-refused _ _ _ (c .before .before .before .before .before .before .before .before .tables-fit .ensures) (c .before .before .before .before .before .check .ensures .number) (c .before .before .if1 .left) (c .before .measures-refusal .ensures) (c .if2 .taken)
+returns-2 c =
+    let t : tie.After-tables-fit = search in
+    given-refused (rw (← t .tables-fit .ensures) (search (refusals, graph-numbered, measures-numbered))) (search)
 
 tree-refusal-requires : tie.Need-tree-refusal-requires
-tree-refusal-requires c κs = let k = first-passed _ (let s = c .before .before .before .before .before .before .before .before .before .before .before .before .before .before .before .before .before .args in given (s .mu .now) (s .nu .now) (s .root) (s .parents .now)) _ (c .before .before .before .before .before .before .before .before .before .tables-fit .ensures) (c .before .before .before .before .before .before .check .ensures .number) (c .before .before .before .if1 .left) in
-    let v = vertices-in _ (k .0 .vertices) in
-    ((v .1, (omega arith, omega (arith, c .before .before .before .before .before .before .before .before .before .before .before .before .before .before .before .before .before .pre))), edges-accepted (k .0))
-
-same-length : tie.Need-same-length
-same-length c = omega arith
+tree-refusal-requires c κs =
+    let s : tie.Start = search in
+    let t : tie.After-tables-fit = search in
+    let k : tie.After-check = search in
+    let p = graph-passed _ _ (sym (k .check .ensures .number) ∙ (search)) in
+    let l = tables-in _ _ _ _ _ (sym (t .tables-fit .ensures) ∙ p .1) in
+    let v = vertices-in _ (p .0 .vertices) in
+    ((v .1, (omega arith, omega (arith, s .pre))), edges-accepted (p .0))
 
 returns-3 : tie.Need-returns-3
-returns-3 c = tree-checked _ _ _ (c .before .before .before .before .before .before .before .before .before .before .before .before .tables-fit .ensures) (c .before .before .before .before .before .before .before .before .before .check .ensures .number) (c .before .before .before .before .before .before .if1 .left) (c .before .before .before .before .before .measures-refusal .ensures) (c .before .before .before .before .if2 .left) (c .before .before .tree-refusal .ensures .0) (c .before .before .tree-refusal .ensures .1)
+returns-3 c =
+    let k : tie.After-check = search in
+    let t : tie.After-tables-fit = search in
+    record {
+      number = rw (← t .tables-fit .ensures) (search (refusals, graph-numbered, measures-numbered));
+      lengths = search;
+      tree = λ _. k .check .ensures .tree (search);
+    }
 
 pub given-refusal-spec : {M : Type 1} → statement M
 given-refusal-spec =
     tie.close
     (tie.spec
-    tables-fit-requires
-    slice-aggregate-check
-    slice-aggregate-check-2
-    check-requires
+    (λ c κs. search needs)
+    (λ c κs. search needs)
+    (λ c. search needs)
+    (λ c. search needs)
+    (λ c. search needs)
     returns
     measures-refusal-requires
+    (λ c. search needs)
+    (λ c. search needs)
+    (λ c. search needs)
     returns-2
     tree-refusal-requires
-    same-length
+    (λ c. search needs)
+    (λ c. search needs)
+    (λ c. search needs)
+    (λ c. search needs)
     returns-3)

@@ -23,12 +23,6 @@ reaches-requires c κs = ((omega arith, omega arith), (c .before .before .before
 returns : tie.Need-returns Inv-loop μ-loop
 returns c = one-misses (c .before .before .before .before .before .pre .1) (c .before .before .before .loop .x) (omega arith) (c .before .reaches .ensures .1 (not-true _ (c .if1 .taken)))
 
-add-x : tie.Need-add-x Inv-loop μ-loop
-add-x c = omega arith
-
-loop-less : tie.Need-loop-less Inv-loop μ-loop
-loop-less c = omega arith
-
 loop-again : tie.Need-loop-again Inv-loop μ-loop
 loop-again c = (omega arith, below-more _ _ (c .before .before .before .loop .inv .1) (c .before .reaches .ensures .0 (not-false _ (c .if1 .left))))
 
@@ -44,7 +38,7 @@ chains-reach-spec =
     loop-holds
     reaches-requires
     returns
-    add-x
-    loop-less
+    (λ c. omega arith)
+    (λ c. omega arith)
     loop-again
     returns-2)

@@ -20,20 +20,8 @@ returns c = let s = c .before .before in stopped-root (s .before .pre .1 .0) _ _
 returns-2 : tie.Need-returns-2 Inv-loop μ-loop
 returns-2 c = let s = c .before .before .before in stopped (s .before .pre .1 .0) _ _ _ (s .loop .inv) (s .before .pre .1 .1 _ (c .if2 .taken))
 
-mul-y : tie.Need-mul-y Inv-loop μ-loop
-mul-y c = omega arith
-
-shared-slice-read-y : tie.Need-shared-slice-read-y Inv-loop μ-loop
-shared-slice-read-y c = omega arith
-
 cast-y : tie.Need-cast-y Inv-loop μ-loop
 cast-y c = omega (arith, c .shared-slice-known .given (c .before .before .before .before .loop .y))
-
-sub-k : tie.Need-sub-k Inv-loop μ-loop
-sub-k c = omega arith
-
-loop-less : tie.Need-loop-less Inv-loop μ-loop
-loop-less c = omega arith
 
 loop-again : tie.Need-loop-again Inv-loop μ-loop
 loop-again c = let s = c .before .before .before .before in climbed-more (s .before .pre .1 .0) _ _ _ (s .loop .inv) (omega arith)
@@ -50,10 +38,10 @@ reaches-spec =
     loop-holds
     returns
     returns-2
-    mul-y
-    shared-slice-read-y
+    (λ c. omega arith)
+    (λ c. omega arith)
     cast-y
-    sub-k
-    loop-less
+    (λ c. omega arith)
+    (λ c. omega arith)
     loop-again
     returns-3)

@@ -1,5 +1,5 @@
 use Prim.Native.Nat.{_-_, _≤_}
-use mathlib.Core.Path.{_≡_, refl, sym}
+use mathlib.Core.Path.{_≡_, sym}
 use native.Mathlib.Omega.{arith}
 use mathlib.Core.Bool.{true, _||_}
 use mathlib.Core.Logic.{⊎-elim, inl, inr}
@@ -20,17 +20,8 @@ abbrev μ-loop : tie.MeasureT-loop
 loop-holds : tie.Need-loop-holds Inv-loop μ-loop
 loop-holds c = (omega arith, all-none _)
 
-shared-slice-read-if2 : tie.Need-shared-slice-read-if2 Inv-loop μ-loop
-shared-slice-read-if2 c = omega arith
-
 returns : tie.Need-returns Inv-loop μ-loop
 returns c = mark-fails _ (c .before .before .before .before .before .args .joined .now) _ _ (omega arith) (c .before .before .if1 .taken) (not-true _ (c .if2 .taken))
-
-add-x : tie.Need-add-x Inv-loop μ-loop
-add-x c = omega arith
-
-loop-less : tie.Need-loop-less Inv-loop μ-loop
-loop-less c = omega arith
 
 loop-again : tie.Need-loop-again Inv-loop μ-loop
 loop-again c = (omega arith, mark-more _ (c .before .before .before .args .joined .now) _ (c .before .before .loop .inv .1) (⊎-elim (λ w. inr (not-false _ (w .2 .left))) (λ w. inl (w .left)) (c .if1 .came)))
@@ -45,9 +36,9 @@ all-joined-spec =
     Inv-loop
     μ-loop
     loop-holds
-    shared-slice-read-if2
+    (λ c. omega arith)
     returns
-    add-x
-    loop-less
+    (λ c. omega arith)
+    (λ c. omega arith)
     loop-again
     returns-2)

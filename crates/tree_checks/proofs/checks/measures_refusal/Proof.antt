@@ -1,27 +1,27 @@
 use native.Mathlib.Omega.{arith}
-use Rattle.tree_checks.proofs.Measures.{six-before, six-after, seven, none}
+use Rattle.arithmetic.specs.Refusal.{refusals}
+use Rattle.tree_checks.specs.Checks.{measureChecks}
+use Rattle.tree_checks.specs.Totals.{totals}
 use Rattle.tree_checks.proofs.checks.measures_refusal.Statement.{statement}
 use Rattle.tree_checks.proofs.checks.measures_refusal.Tie as tie
 
-capped-total-requires : tie.Need-capped-total-requires
-capped-total-requires c κs = omega arith
-
-capped-total-requires-2 : tie.Need-capped-total-requires-2
-capped-total-requires-2 c κs = omega arith
-
 returns : tie.Need-returns
-returns c = six-before _ _ _ (c .before .before .capped-total .ensures) (c .before .capped-total2 .ensures) (c .if1 .taken)
+unfolding measureChecks
+returns c = search (refusals, totals)
 
 returns-2 : tie.Need-returns-2
-returns-2 c = six-after _ _ _ (c .before .before .before .capped-total .ensures) (c .before .before .capped-total2 .ensures) (c .if2 .taken)
+unfolding measureChecks
+returns-2 c = search (refusals, totals)
 
 returns-3 : tie.Need-returns-3
-returns-3 c = seven _ _ _ (c .before .before .before .before .capped-total .ensures) (c .before .before .before .capped-total2 .ensures) (c .before .before .if1 .left) (c .before .if2 .left) (c .if3 .taken)
+unfolding measureChecks
+returns-3 c = search (refusals, totals)
 
 returns-4 : tie.Need-returns-4
-returns-4 c = none _ _ _ (c .before .before .before .before .capped-total .ensures) (c .before .before .before .capped-total2 .ensures) (c .before .before .if1 .left) (c .before .if2 .left) (c .if3 .left)
+unfolding measureChecks
+returns-4 c = search (refusals, totals)
 
 pub measures-refusal-spec : {M : Type 1} → statement M
 measures-refusal-spec =
     tie.close
-    (tie.spec capped-total-requires capped-total-requires-2 returns returns-2 returns-3 returns-4)
+    (tie.spec (λ c κs. omega arith) returns (λ c κs. omega arith) returns-2 returns-3 returns-4)

@@ -17,12 +17,6 @@ abbrev μ-loop : tie.MeasureT-loop
 returns : tie.Need-returns Inv-loop μ-loop
 returns c = parents-fail _ _ _ (λ t. omega (arith, t .root))
 
-mul-if2 : tie.Need-mul-if2 Inv-loop μ-loop
-mul-if2 c = omega arith
-
-shared-slice-read-if2 : tie.Need-shared-slice-read-if2 Inv-loop μ-loop
-shared-slice-read-if2 c = omega arith
-
 cast-if2 : tie.Need-cast-if2 Inv-loop μ-loop
 cast-if2 c = omega (arith, c .shared-slice-known .given (c .before .before .args .root))
 
@@ -32,12 +26,6 @@ returns-2 c = parents-fail _ _ _ (λ t. c .if2 .taken (t .stay))
 loop-holds : tie.Need-loop-holds Inv-loop μ-loop
 loop-holds c = (omega arith, λ z l. absurd (omega arith))
 
-mul-y : tie.Need-mul-y Inv-loop μ-loop
-mul-y c = omega arith
-
-shared-slice-read-y : tie.Need-shared-slice-read-y Inv-loop μ-loop
-shared-slice-read-y c = omega arith
-
 cast-y : tie.Need-cast-y Inv-loop μ-loop
 cast-y c = omega (arith, c .shared-slice-known2 .given (c .before .before .loop .x))
 
@@ -46,12 +34,6 @@ returns-3 c = parents-fail _ _ _ (λ t. omega (arith, t .into (c .before .before
 
 returns-4 : tie.Need-returns-4 Inv-loop μ-loop
 returns-4 c = parents-fail _ _ _ (λ t. c .if5 .taken (t .alone (c .before .before .before .before .before .loop .x) (omega arith) (c .before .if4 .taken)))
-
-add-x : tie.Need-add-x Inv-loop μ-loop
-add-x c = omega arith
-
-loop-less : tie.Need-loop-less Inv-loop μ-loop
-loop-less c = omega arith
 
 loop-again : tie.Need-loop-again Inv-loop μ-loop
 loop-again c = (omega arith, below-more _ _ (c .before .before .before .before .loop .inv .1) (c .before .if3 .left, λ e. ⊎-elim (λ w. w .1 .left) (λ w. absurd (w .left e)) (c .if4 .came)))
@@ -73,17 +55,17 @@ parents-ok-spec =
     Inv-loop
     μ-loop
     returns
-    mul-if2
-    shared-slice-read-if2
+    (λ c. omega arith)
+    (λ c. omega arith)
     cast-if2
     returns-2
     loop-holds
-    mul-y
-    shared-slice-read-y
+    (λ c. omega arith)
+    (λ c. omega arith)
     cast-y
     returns-3
     returns-4
-    add-x
-    loop-less
+    (λ c. omega arith)
+    (λ c. omega arith)
     loop-again
     returns-5)

@@ -5,23 +5,8 @@ use Rattle.tree_checks.proofs.Edges.{fresh, noted-lengths, noted-answer
 use Rattle.tree_checks.proofs.checks.tree_edges_ok.Statement.{statement}
 use Rattle.tree_checks.proofs.checks.tree_edges_ok.Tie as tie
 
-clear-requires : tie.Need-clear-requires
-clear-requires c κs = search needs
-
-slice-aggregate-note-edges : tie.Need-slice-aggregate-note-edges
-slice-aggregate-note-edges c = search needs
-
 note-edges-requires : tie.Need-note-edges-requires
 note-edges-requires c κs = ((omega arith, (omega arith, omega arith)), (c .before .before .before .before .before .before .before .before .before .before .before .pre .1, fresh _ (c .before .before .before .before .clear .ensures) refl))
-
-slice-aggregate-all-joined : tie.Need-slice-aggregate-all-joined
-slice-aggregate-all-joined c = search needs
-
-all-joined-requires : tie.Need-all-joined-requires
-all-joined-requires c κs = search needs
-
-same-length : tie.Need-same-length
-same-length c = search needs
 
 returns : tie.Need-returns
 returns c =
@@ -32,10 +17,10 @@ pub tree-edges-ok-spec : {M : Type 1} → statement M
 tree-edges-ok-spec =
     tie.close
     (tie.spec
-    clear-requires
-    slice-aggregate-note-edges
+    (λ c κs. search needs)
+    (λ c. search needs)
     note-edges-requires
-    slice-aggregate-all-joined
-    all-joined-requires
-    same-length
+    (λ c. search needs)
+    (λ c κs. search needs)
+    (λ c. search needs)
     returns)

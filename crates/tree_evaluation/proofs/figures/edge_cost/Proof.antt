@@ -5,9 +5,6 @@ use native.Mathlib.Nat.{mul-le-mul}
 use Rattle.tree_evaluation.proofs.figures.edge_cost.Statement.{statement}
 use Rattle.tree_evaluation.proofs.figures.edge_cost.Tie as tie
 
-magnitude-requires : tie.Need-magnitude-requires
-magnitude-requires c κs = omega arith
-
 mul-result : tie.Need-mul-result
 mul-result c = let i : c .before .before .args .l ≤ 2 ^ 32 = omega arith in
     let j : c .magnitude .result ≤ 2 ^ 31 = omega arith in
@@ -20,4 +17,4 @@ returns-2 : tie.Need-returns-2
 returns-2 c = cc
 
 pub edge-cost-spec : {M : Type 1} → statement M
-edge-cost-spec = tie.close (tie.spec magnitude-requires mul-result returns returns-2)
+edge-cost-spec = tie.close (tie.spec (λ c κs. omega arith) mul-result returns returns-2)

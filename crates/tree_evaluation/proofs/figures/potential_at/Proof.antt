@@ -27,15 +27,6 @@ loop-holds c = (climbing-none _ _ _ _ _ (omega arith), climbing-none _ _ _ _ _ (
 rises-requires : tie.Need-rises-requires Inv-loop μ-loop
 rises-requires c κs = (omega arith, c .before .before .before .before .pre .1 .1 .1 .1 (c .before .loop .x) (c .before .loop .inv .0 .low))
 
-mul-length-if : tie.Need-mul-length-if Inv-loop μ-loop
-mul-length-if c = omega arith
-
-shared-slice-read-length-if : tie.Need-shared-slice-read-length-if Inv-loop μ-loop
-shared-slice-read-length-if c = omega arith
-
-length-if-requires : tie.Need-length-if-requires Inv-loop μ-loop
-length-if-requires c κs = omega arith
-
 add-up : tie.Need-add-up Inv-loop μ-loop
 add-up c = let s = c .before .before .before .before .before .before .before in
     let h = climbing-fits (s .pre .1 .1 .0) _ (c .before .before .before .before .loop .inv .0) _ (2 ^ 31) refl (c .before .before .before .loop-test .taken) (rise-lt _ _ _ (s .pre .0 .0) (s .pre .1 .1 .1 .0) _ (λ x. getD (s .args .imbalance .now) x (pos 0)) _) in
@@ -47,25 +38,10 @@ add-up c = let s = c .before .before .before .before .before .before .before in
 falls-requires : tie.Need-falls-requires Inv-loop μ-loop
 falls-requires c κs = (omega arith, c .before .before .before .before .before .before .before .pre .1 .1 .1 .1 (c .before .before .before .before .loop .x) (c .before .before .before .before .loop .inv .0 .low))
 
-mul-length-if-2 : tie.Need-mul-length-if-2 Inv-loop μ-loop
-mul-length-if-2 c = omega arith
-
-shared-slice-read-length-if-2 : tie.Need-shared-slice-read-length-if-2 Inv-loop μ-loop
-shared-slice-read-length-if-2 c = omega arith
-
-length-if-requires-2 : tie.Need-length-if-requires-2 Inv-loop μ-loop
-length-if-requires-2 c κs = omega arith
-
 add-down : tie.Need-add-down Inv-loop μ-loop
 add-down c = let s = c .before .before .before .before .before .before .before .before .before .before in
     let h = climbing-fits (s .pre .1 .1 .0) _ (c .before .before .before .before .before .before .before .loop .inv .1) _ (2 ^ 31) (rw (c .before .before .falls .ensures) at (c .length-if2 .ensures)) (c .before .before .before .before .before .before .loop-test .taken) (fall-lt _ _ _ (s .pre .0 .0) (s .pre .1 .1 .1 .0) _ (λ x. getD (s .args .imbalance .now) x (pos 0)) _) in
     omega arith
-
-mul-x : tie.Need-mul-x Inv-loop μ-loop
-mul-x c = omega arith
-
-shared-slice-read-x : tie.Need-shared-slice-read-x Inv-loop μ-loop
-shared-slice-read-x c = omega arith
 
 cast-x : tie.Need-cast-x Inv-loop μ-loop
 cast-x c = omega (arith, c .shared-slice-known5 .given (c .before .before .before .before .before .before .before .before .loop .x))
@@ -102,17 +78,17 @@ potential-at-spec =
     μ-loop
     loop-holds
     rises-requires
-    mul-length-if
-    shared-slice-read-length-if
-    length-if-requires
+    (λ c. omega arith)
+    (λ c. omega arith)
+    (λ c κs. omega arith)
     add-up
     falls-requires
-    mul-length-if-2
-    shared-slice-read-length-if-2
-    length-if-requires-2
+    (λ c. omega arith)
+    (λ c. omega arith)
+    (λ c κs. omega arith)
     add-down
-    mul-x
-    shared-slice-read-x
+    (λ c. omega arith)
+    (λ c. omega arith)
     cast-x
     loop-less
     loop-again

@@ -5,14 +5,8 @@ use Rattle.tree_evaluation.proofs.Signs.{rises-is}
 use Rattle.tree_evaluation.proofs.figures.rises.Statement.{statement}
 use Rattle.tree_evaluation.proofs.figures.rises.Tie as tie
 
-mul-result : tie.Need-mul-result
-mul-result c = omega arith
-
-shared-slice-copy-out-result : tie.Need-shared-slice-copy-out-result
-shared-slice-copy-out-result c = omega arith
-
 returns : tie.Need-returns
 returns c = rises-is (getD (c .before .args .imbalance .now) (c .before .args .x) (pos 0)) (record { sfits = c .before .pre .1 })
 
 pub rises-spec : {M : Type 1} → statement M
-rises-spec = tie.close (tie.spec mul-result shared-slice-copy-out-result returns)
+rises-spec = tie.close (tie.spec (λ c. omega arith) (λ c. omega arith) returns)

@@ -16,24 +16,6 @@ abbrev μ-loop : tie.MeasureT-loop
 loop-holds : tie.Need-loop-holds Inv-loop μ-loop
 loop-holds c = (omega arith, cost-none _ _ _ _)
 
-mul-edge-cost : tie.Need-mul-edge-cost Inv-loop μ-loop
-mul-edge-cost c = omega arith
-
-shared-slice-read-edge-cost : tie.Need-shared-slice-read-edge-cost Inv-loop μ-loop
-shared-slice-read-edge-cost c = omega arith
-
-mul-edge-cost-2 : tie.Need-mul-edge-cost-2 Inv-loop μ-loop
-mul-edge-cost-2 c = omega arith
-
-shared-slice-read-edge-cost-2 : tie.Need-shared-slice-read-edge-cost-2 Inv-loop μ-loop
-shared-slice-read-edge-cost-2 c = omega arith
-
-mul-edge-cost-3 : tie.Need-mul-edge-cost-3 Inv-loop μ-loop
-mul-edge-cost-3 c = omega arith
-
-shared-slice-read-edge-cost-3 : tie.Need-shared-slice-read-edge-cost-3 Inv-loop μ-loop
-shared-slice-read-edge-cost-3 c = omega arith
-
 edge-cost-requires : tie.Need-edge-cost-requires Inv-loop μ-loop
 edge-cost-requires c κs = let s = c .before .before .before .before .before .before .before .before in
     let x = c .before .before .before .before .loop .x in
@@ -44,12 +26,6 @@ add-cost c = let s = c .before .before .before .before .before .before .before .
     let l = c .before .before .before .before .before .loop in
     let e : l .cost + c .edge-cost .result ≡ costFrom (l .x + 1) (s .args .root) (at (s .args .above .now)) (at (s .args .supply .now)) (at (s .args .demand .now)) = cost-more _ _ _ _ _ _ _ (l .inv .1) (c .edge-cost .ensures) in
     omega (arith, e, costs-lt (s .args .n) (s .args .root) _ (omega arith) (s .pre .1 .0) _ _ (s .pre .1 .1 .0) (s .pre .1 .1 .1) (l .x + 1) (omega arith))
-
-add-x : tie.Need-add-x Inv-loop μ-loop
-add-x c = omega arith
-
-loop-less : tie.Need-loop-less Inv-loop μ-loop
-loop-less c = omega arith
 
 loop-again : tie.Need-loop-again Inv-loop μ-loop
 loop-again c = (omega arith, cost-more _ _ _ _ _ _ _ (c .before .before .before .before .before .loop .inv .1) (c .edge-cost .ensures))
@@ -64,15 +40,15 @@ tree-cost-spec =
     Inv-loop
     μ-loop
     loop-holds
-    mul-edge-cost
-    shared-slice-read-edge-cost
-    mul-edge-cost-2
-    shared-slice-read-edge-cost-2
-    mul-edge-cost-3
-    shared-slice-read-edge-cost-3
+    (λ c. omega arith)
+    (λ c. omega arith)
+    (λ c. omega arith)
+    (λ c. omega arith)
+    (λ c. omega arith)
+    (λ c. omega arith)
     edge-cost-requires
     add-cost
-    add-x
-    loop-less
+    (λ c. omega arith)
+    (λ c. omega arith)
     loop-again
     returns)

@@ -20,41 +20,14 @@ abbrev μ-loop : tie.MeasureT-loop
 loop-holds : tie.Need-loop-holds Inv-loop μ-loop
 loop-holds c = (omega arith, (refl, tab-none _ _))
 
-mul-difference : tie.Need-mul-difference Inv-loop μ-loop
-mul-difference c = omega arith
-
-shared-slice-read-difference : tie.Need-shared-slice-read-difference Inv-loop μ-loop
-shared-slice-read-difference c = omega arith
-
-mul-difference-2 : tie.Need-mul-difference-2 Inv-loop μ-loop
-mul-difference-2 c = omega arith
-
-shared-slice-read-difference-2 : tie.Need-shared-slice-read-difference-2 Inv-loop μ-loop
-shared-slice-read-difference-2 c = omega arith
-
 difference-requires : tie.Need-difference-requires Inv-loop μ-loop
 difference-requires c κs = let s = c .before .before .before .before .before .before in
     let x = c .before .before .before .loop .x in
     (s .pre .1 .0 x (omega arith), s .pre .1 .1 x (omega arith))
 
-mul-t14 : tie.Need-mul-t14 Inv-loop μ-loop
-mul-t14 c = omega arith
-
-slice-set-from-out : tie.Need-slice-set-from-out Inv-loop μ-loop
-slice-set-from-out c = omega arith
-
-add-x : tie.Need-add-x Inv-loop μ-loop
-add-x c = omega arith
-
-loop-less : tie.Need-loop-less Inv-loop μ-loop
-loop-less c = omega arith
-
 loop-again : tie.Need-loop-again Inv-loop μ-loop
 loop-again c = let l = c .before .before .before .before .loop in
     (omega arith, (simp length-set (l .inv .1 .0), tab-store _ _ _ _ _ (omega arith) (l .inv .1 .1) (toZ-ofZ w32 _ (record { sfits = c .difference .ok }) ∙ c .difference .ensures)))
-
-same-length : tie.Need-same-length Inv-loop μ-loop
-same-length c = omega arith
 
 returns : tie.Need-returns Inv-loop μ-loop
 returns c = let e : c .before .loop .x ≡ c .before .before .before .before .args .n = omega arith in rw e at (c .before .loop .inv .1 .1)
@@ -66,15 +39,15 @@ write-imbalance-spec =
     Inv-loop
     μ-loop
     loop-holds
-    mul-difference
-    shared-slice-read-difference
-    mul-difference-2
-    shared-slice-read-difference-2
+    (λ c. omega arith)
+    (λ c. omega arith)
+    (λ c. omega arith)
+    (λ c. omega arith)
     difference-requires
-    mul-t14
-    slice-set-from-out
-    add-x
-    loop-less
+    (λ c. omega arith)
+    (λ c. omega arith)
+    (λ c. omega arith)
+    (λ c. omega arith)
     loop-again
-    same-length
+    (λ c. omega arith)
     returns)

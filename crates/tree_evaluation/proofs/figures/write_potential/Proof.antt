@@ -30,24 +30,9 @@ potential-at-requires c κs = let s = c .before .before .before .before .before 
     let e : 64 ≡ length (s .args .tree .parents) = slice-aggregate-potential-at c in
     ((s .pre .0 .0, c .before .loop-test .taken), ((omega (arith, s .pre .0 .0), s .pre .1 .0), (s .pre .1 .1 .0, s .pre .1 .1 .1)))
 
-mul-t13 : tie.Need-mul-t13 Inv-loop μ-loop
-mul-t13 c = omega arith
-
-slice-set-from-out : tie.Need-slice-set-from-out Inv-loop μ-loop
-slice-set-from-out c = omega arith
-
-add-y : tie.Need-add-y Inv-loop μ-loop
-add-y c = omega arith
-
-loop-less : tie.Need-loop-less Inv-loop μ-loop
-loop-less c = omega arith
-
 loop-again : tie.Need-loop-again Inv-loop μ-loop
 loop-again c = let l = c .before .before .before .loop in
     (omega arith, (simp length-set (l .inv .1 .0), tab-store _ _ _ _ _ (omega arith) (l .inv .1 .1) (toZ-ofZ w32 _ (record { sfits = c .potential-at .ok }) ∙ c .potential-at .ensures)))
-
-same-length : tie.Need-same-length Inv-loop μ-loop
-same-length c = omega arith
 
 returns : tie.Need-returns Inv-loop μ-loop
 returns c = let e : c .before .loop .y ≡ c .before .before .before .before .args .tree .n = omega arith in rw e at (c .before .loop .inv .1 .1)
@@ -61,10 +46,10 @@ write-potential-spec =
     loop-holds
     slice-aggregate-potential-at
     potential-at-requires
-    mul-t13
-    slice-set-from-out
-    add-y
-    loop-less
+    (λ c. omega arith)
+    (λ c. omega arith)
+    (λ c. omega arith)
+    (λ c. omega arith)
     loop-again
-    same-length
+    (λ c. omega arith)
     returns)

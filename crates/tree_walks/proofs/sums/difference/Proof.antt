@@ -5,12 +5,6 @@ use Rattle.tree_walks.proofs.Signed.{sub-fits, sub-back}
 use Rattle.tree_walks.proofs.sums.difference.Statement.{statement}
 use Rattle.tree_walks.proofs.sums.difference.Tie as tie
 
-cast-result : tie.Need-cast-result
-cast-result c = omega arith
-
-cast-result-2 : tie.Need-cast-result-2
-cast-result-2 c = omega arith
-
 sub-result : tie.Need-sub-result
 sub-result c = sub-fits w32 (c .args .a) (c .args .b) (omega arith) (omega arith)
 
@@ -18,4 +12,4 @@ returns : tie.Need-returns
 returns c = sub-back w32 (c .args .a) (c .args .b) (omega arith) (omega arith)
 
 pub difference-spec : {M : Type 1} → statement M
-difference-spec = tie.close (tie.spec cast-result cast-result-2 sub-result returns)
+difference-spec = tie.close (tie.spec (λ c. omega arith) (λ c. omega arith) sub-result returns)

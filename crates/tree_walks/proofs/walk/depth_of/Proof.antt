@@ -13,15 +13,6 @@ Inv-loop n root parents x y₀ d₀ y d = (y < n) × (d + depth (at parents) roo
 abbrev μ-loop : tie.MeasureT-loop
 μ-loop n root parents x y₀ d₀ y d = depth (at parents) root n y
 
-loop-holds : tie.Need-loop-holds Inv-loop μ-loop
-loop-holds c = omega arith
-
-mul-y : tie.Need-mul-y Inv-loop μ-loop
-mul-y c = omega arith
-
-shared-slice-read-y : tie.Need-shared-slice-read-y Inv-loop μ-loop
-shared-slice-read-y c = omega arith
-
 cast-y : tie.Need-cast-y Inv-loop μ-loop
 cast-y c = omega (arith, c .shared-slice-known .given (c .before .before .loop .y))
 
@@ -43,9 +34,9 @@ depth-of-spec =
     (tie.spec
     Inv-loop
     μ-loop
-    loop-holds
-    mul-y
-    shared-slice-read-y
+    (λ c. omega arith)
+    (λ c. omega arith)
+    (λ c. omega arith)
     cast-y
     add-d
     loop-less

@@ -14,26 +14,14 @@ Inv-loop n root parents masks₀ y₀ masks y = (y ≤ n) × Filled n (λ x. mas
 abbrev μ-loop : tie.MeasureT-loop
 μ-loop n root parents masks₀ y₀ masks y = n - y
 
-clear-requires : tie.Need-clear-requires Inv-loop μ-loop
-clear-requires c κs = omega arith
-
 loop-holds : tie.Need-loop-holds Inv-loop μ-loop
 loop-holds c = (omega arith, masks-none _ _ _ _ (c .before .before .clear .ensures))
 
 walk-up-requires : tie.Need-walk-up-requires Inv-loop μ-loop
 walk-up-requires c κs = ((omega arith, (omega arith, (omega arith, omega arith))), c .before .before .before .before .before .before .before .before .before .pre .1)
 
-add-y : tie.Need-add-y Inv-loop μ-loop
-add-y c = omega arith
-
-loop-less : tie.Need-loop-less Inv-loop μ-loop
-loop-less c = omega arith
-
 loop-again : tie.Need-loop-again Inv-loop μ-loop
 loop-again c = (omega arith, masks-more _ _ _ _ _ _ (c .before .before .before .before .before .loop .inv .1) (c .before .before .walk-up .ensures))
-
-same-length : tie.Need-same-length Inv-loop μ-loop
-same-length c = omega arith
 
 returns : tie.Need-returns Inv-loop μ-loop
 returns c = masks-end _ _ _ _ _ (c .before .before .before .before .clear .ensures) (omega arith) (c .before .loop .inv .1)
@@ -44,11 +32,11 @@ subtree-masks-spec =
     (tie.spec
     Inv-loop
     μ-loop
-    clear-requires
+    (λ c κs. omega arith)
     loop-holds
     walk-up-requires
-    add-y
-    loop-less
+    (λ c. omega arith)
+    (λ c. omega arith)
     loop-again
-    same-length
+    (λ c. omega arith)
     returns)

@@ -9,18 +9,12 @@ mul-result c = omega (arith, mul-le-mul (c .pre) (c .pre))
 mul-result-2 : tie.Need-mul-result-2
 mul-result-2 c = omega (arith, mul-le-mul (c .pre) (c .pre))
 
-mul-result-3 : tie.Need-mul-result-3
-mul-result-3 c = omega arith
-
 add-result : tie.Need-add-result
 add-result c = omega (arith, mul-le-mul (c .pre) (c .pre))
 
 add-result-2 : tie.Need-add-result-2
 add-result-2 c = omega (arith, mul-le-mul (c .pre) (c .pre))
 
-returns : tie.Need-returns
-returns c = omega arith
-
 pub record-size-spec : {M : Type 1} → statement M
 record-size-spec =
-    tie.close (tie.spec mul-result mul-result-2 mul-result-3 add-result add-result-2 returns)
+    tie.close (tie.spec mul-result mul-result-2 (λ c. omega arith) add-result add-result-2 (λ c. omega arith))

@@ -7,9 +7,6 @@ use Rattle.spanning_tree.proofs.Known.{known-say, known-rooted, depth-u
 use Rattle.spanning_tree.proofs.tree.Tree.depth.Statement.{statement}
 use Rattle.spanning_tree.proofs.tree.Tree.depth.Tie as tie
 
-knows-requires : tie.Need-knows-requires
-knows-requires c κs = search needs
-
 returns : tie.Need-returns
 returns c = depth-unknown _ _ _ _ (sym (c .before .knows .ensures) ∙ not-true _ (c .if1 .taken))
 
@@ -25,4 +22,4 @@ returns-2 c = c .depth-of .ensures ∙ depth-known _ _ _ _ (sym (c .before .befo
 pub depth-spec : {M : Type 1} → statement M
 depth-spec =
     tie.close
-    (tie.spec knows-requires returns slice-aggregate-depth-of depth-of-requires returns-2)
+    (tie.spec (λ c κs. search needs) returns slice-aggregate-depth-of depth-of-requires returns-2)

@@ -16,29 +16,8 @@ Inv-loop n root parents held₀ count x₀ held x = (x ≤ count) × ((length he
 abbrev μ-loop : tie.MeasureT-loop
 μ-loop n root parents held₀ count x₀ held x = count - x
 
-held-count-requires : tie.Need-held-count-requires Inv-loop μ-loop
-held-count-requires c κs = omega arith
-
 loop-holds : tie.Need-loop-holds Inv-loop μ-loop
 loop-holds c = (omega arith, (refl, tab-none _ _))
-
-mul-held : tie.Need-mul-held Inv-loop μ-loop
-mul-held c = omega arith
-
-shared-slice-read-held : tie.Need-shared-slice-read-held Inv-loop μ-loop
-shared-slice-read-held c = omega arith
-
-mul-held-2 : tie.Need-mul-held-2 Inv-loop μ-loop
-mul-held-2 c = omega arith
-
-array-write-held : tie.Need-array-write-held Inv-loop μ-loop
-array-write-held c = omega arith
-
-add-x : tie.Need-add-x Inv-loop μ-loop
-add-x c = omega arith
-
-loop-less : tie.Need-loop-less Inv-loop μ-loop
-loop-less c = omega arith
 
 loop-again : tie.Need-loop-again Inv-loop μ-loop
 loop-again c = let l = c .before .before .loop in
@@ -53,13 +32,13 @@ new-spec =
     (tie.spec
     Inv-loop
     μ-loop
-    held-count-requires
+    (λ c κs. omega arith)
     loop-holds
-    mul-held
-    shared-slice-read-held
-    mul-held-2
-    array-write-held
-    add-x
-    loop-less
+    (λ c. omega arith)
+    (λ c. omega arith)
+    (λ c. omega arith)
+    (λ c. omega arith)
+    (λ c. omega arith)
+    (λ c. omega arith)
     loop-again
     returns)

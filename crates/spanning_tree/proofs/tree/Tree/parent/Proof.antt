@@ -6,9 +6,6 @@ use Rattle.spanning_tree.proofs.Known.{known-say, parent-unknown, paren
 use Rattle.spanning_tree.proofs.tree.Tree.parent.Statement.{statement}
 use Rattle.spanning_tree.proofs.tree.Tree.parent.Tie as tie
 
-knows-requires : tie.Need-knows-requires
-knows-requires c κs = search needs
-
 returns : tie.Need-returns
 returns c = parent-unknown _ _ _ _ (sym (c .before .knows .ensures) ∙ not-true _ (c .if1 .taken))
 
@@ -23,4 +20,4 @@ returns-2 c = parent-known _ _ _ _ (sym (c .before .before .knows .ensures) ∙ 
 
 pub parent-spec : {M : Type 1} → statement M
 parent-spec =
-    tie.close (tie.spec knows-requires returns mul-result element-copy-out-result returns-2)
+    tie.close (tie.spec (λ c κs. search needs) returns mul-result element-copy-out-result returns-2)

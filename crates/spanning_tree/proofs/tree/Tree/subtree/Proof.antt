@@ -7,17 +7,11 @@ use Rattle.spanning_tree.proofs.Known.{known-say, known-rooted, subtree
 use Rattle.spanning_tree.proofs.tree.Tree.subtree.Statement.{statement}
 use Rattle.spanning_tree.proofs.tree.Tree.subtree.Tie as tie
 
-knows-requires : tie.Need-knows-requires
-knows-requires c κs = search needs
-
 returns : tie.Need-returns
 returns c = subtree-unknown _ _ _ _ (sym (c .before .knows .ensures) ∙ not-true _ (c .if1 .taken))
 
 slice-aggregate-subtree-masks : tie.Need-slice-aggregate-subtree-masks
 slice-aggregate-subtree-masks c = search needs
-
-slice-aggregate-subtree-masks-2 : tie.Need-slice-aggregate-subtree-masks-2
-slice-aggregate-subtree-masks-2 c = search needs
 
 subtree-masks-requires : tie.Need-subtree-masks-requires
 subtree-masks-requires c κs = let e : 64 ≡ length (c .before .before .before .before .before .args .self .parents) = slice-aggregate-subtree-masks (c .before) in let k = known-say _ _ _ _ (sym (c .before .before .before .before .knows .ensures) ∙ not-false _ (c .before .before .before .if1 .left)) in ((omega arith, (omega arith, omega arith)), known-rooted _ _ _ _ k)
@@ -35,10 +29,10 @@ pub subtree-spec : {M : Type 1} → statement M
 subtree-spec =
     tie.close
     (tie.spec
-    knows-requires
+    (λ c κs. search needs)
     returns
     slice-aggregate-subtree-masks
-    slice-aggregate-subtree-masks-2
+    (λ c. search needs)
     subtree-masks-requires
     mul-result
     array-read-result

@@ -1,0 +1,3 @@
+pub mod FloydWarshallLaws
+pub mod DistanceCases
+pub mod RecordCases

@@ -1,0 +1,3 @@
+pub mod Distances
+pub mod FloydWarshall
+pub mod Records

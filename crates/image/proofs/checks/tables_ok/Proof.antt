@@ -1,0 +1,31 @@
+-- `tables_ok` meets its contract.
+use mathlib.Core.Path.{sym}
+use native.Mathlib.Omega.{arith}
+use Rattle.image.specs.Read.{roomOk}
+use Rattle.image.proofs.Tests.{tests}
+use Rattle.image.proofs.checks.tables_ok.Statement.{statement}
+use Rattle.image.proofs.checks.tables_ok.Tie as tie
+
+returns : tie.Need-returns
+unfolding roomOk
+returns c = sym (search tests)
+
+returns-2 : tie.Need-returns-2
+unfolding roomOk
+returns-2 c = sym (search tests)
+
+returns-3 : tie.Need-returns-3
+unfolding roomOk
+returns-3 c = sym (search tests)
+
+pub tables-ok-spec : {M : Type 1} → statement M
+tables-ok-spec =
+    tie.close
+    (tie.spec
+    (λ c κs. omega arith)
+    returns
+    (λ c κs. omega arith)
+    returns-2
+    (λ c κs. omega arith)
+    (λ c κs. omega arith)
+    returns-3)

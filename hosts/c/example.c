@@ -1,85 +1,155 @@
-/* Builds an image, runs it and prints the plan: the best answer first, then a given tree, then a refusal. */
+/* Every call on one patch: distances, the best answer, a given tree and whether it is best, the tree's methods, the same by an image,
+ * and a refusal. */
 #include "mover.h"
 
 #include <inttypes.h>
 #include <stdio.h>
-#include <string.h>
-
-struct edge {
-  uint8_t a, b;
-  uint16_t length;
-};
 
 /* Two rings of three vertices round a limb, joined along its length. */
 enum { N = 6, M = 9 };
-static const struct edge edges[M] = {
+static const mover_edge edges[M] = {
     {0, 1, 210}, {0, 2, 205}, {0, 3, 340}, {1, 2, 190}, {1, 4, 330},
     {2, 5, 350}, {3, 4, 180}, {3, 5, 175}, {4, 5, 170},
 };
-static const uint32_t before[N] = {610, 240, 150, 0, 0, 0};
-static const uint32_t after[N] = {0, 100, 100, 300, 300, 200};
+static uint32_t a[M], b[M], lengths[M]; /* the same edges as three lists */
+static const uint64_t before[N] = {610, 240, 150, 0, 0, 0};
+static const uint64_t after[N] = {0, 100, 100, 300, 300, 200};
 
-/* A tree that goes the long way round: its root, then each vertex's parent. */
-static const uint8_t chain[N + 1] = {0, 0, 0, 1, 4, 5, 2};
+/* A tree that goes the long way round: each vertex's parent. Its root is 0. */
+static const uint32_t chain[N] = {0, 0, 1, 4, 5, 2};
 
-static void put(uint8_t *at, uint32_t value, int bytes) {
-  for (int i = 0; i < bytes; i++) at[i] = (uint8_t)(value >> 8 * i);
+static void refused(uint32_t number) {
+  printf("  refused %" PRIu32 ": %s\n", number, mover_refusal_text(number));
 }
 
-/* Writes the image with sections back to back and returns its length. `tree` may be NULL. */
-static size_t build(uint8_t *image, const uint32_t *mu, const uint32_t *nu, const uint8_t *tree) {
-  const uint32_t lengths[4] = {4 * M, 4 * N, 4 * N, tree ? N + 1 : 0};
-  uint32_t at[5] = {MOVER_IMAGE_HEADER};
-  image[0] = N;
-  image[1] = 0;
-  put(image + 2, M, 2);
-  for (int s = 0; s < 4; s++) {
-    put(image + 4 + 8 * s, at[s], 4);
-    put(image + 8 + 8 * s, lengths[s], 4);
-    at[s + 1] = at[s] + lengths[s];
-  }
-  for (int k = 0; k < M; k++) {
-    uint8_t *entry = image + at[0] + 4 * k;
-    entry[0] = edges[k].a;
-    entry[1] = edges[k].b;
-    put(entry + 2, edges[k].length, 2);
-  }
-  for (int x = 0; x < N; x++) {
-    put(image + at[1] + 4 * x, mu[x], 4);
-    put(image + at[2] + 4 * x, nu[x], 4);
-  }
-  if (tree) memcpy(image + at[3], tree, N + 1);
-  return at[4];
+static void print_moves(const uint32_t *plan) {
+  size_t from, to;
+  for (from = 0; from < N; from++)
+    for (to = 0; to < N; to++)
+      if (plan[from * N + to] > 0) printf("  %zu to %zu: %" PRIu32 "\n", from, to, plan[from * N + to]);
 }
 
-static void run(const char *title, const uint32_t *mu, const uint32_t *nu, const uint8_t *tree) {
-  uint8_t image[MOVER_IMAGE_SIZE(N, M) + N + 1];
-  uint8_t record[MOVER_RECORD_SIZE(N)];
-  size_t length = build(image, mu, nu, tree);
-  uint32_t number = mover_run(image, length, record, sizeof record);
-
-  printf("%s\n", title);
+static void distances(void) {
+  uint32_t table[N * N], same[N * N], number;
+  size_t i, j, differ = 0;
+  printf("distances\n");
+  number = mover_distances(N, a, M, b, M, lengths, M, table, N * N);
   if (number != MOVER_OK) {
-    printf("  refused %" PRIu32 "\n", number);
+    refused(number);
+    return;
+  }
+  for (i = 0; i < N; i++) {
+    printf(" ");
+    for (j = 0; j < N; j++) printf(" %3" PRIu32, table[i * N + j]);
+    printf("\n");
+  }
+  number = mover_distances_of_records(N, edges, M, same, N * N);
+  for (i = 0; i < N * N; i++) differ += table[i] != same[i];
+  printf("  over records: number %" PRIu32 ", %zu places differ\n", number, differ);
+}
+
+/* Is the tree with root 0 and these parents a best one? */
+static void judge(const uint64_t *mu, const uint64_t *nu, const uint32_t *parents) {
+  uint32_t optimal;
+  uint32_t number = mover_is_optimal(N, a, M, b, M, lengths, M, mu, N, nu, N, 0, parents, N, &optimal);
+  if (number != MOVER_OK)
+    refused(number);
+  else
+    printf("  %s\n", optimal ? "no tree costs less" : "some tree costs less");
+}
+
+static void best(const uint64_t *mu, const uint64_t *nu) {
+  uint32_t parents[N], plan[N * N], moves, number;
+  int32_t potential[N];
+  uint64_t cost;
+  size_t x;
+  number = mover_solve(N, a, M, b, M, lengths, M, mu, N, nu, N, parents, N, potential, N, plan, N * N, &cost, &moves);
+  if (number != MOVER_OK) {
+    refused(number);
+    return;
+  }
+  printf("  cost %" PRIu64 ", %" PRIu32 " moves\n  parents", cost, moves);
+  for (x = 0; x < N; x++) printf(" %" PRIu32, parents[x]);
+  printf("\n  potential");
+  for (x = 0; x < N; x++) printf(" %" PRId32, potential[x]);
+  printf("\n");
+  print_moves(plan);
+  judge(mu, nu, parents);
+}
+
+static void given_tree(void) {
+  uint32_t plan[N * N], moves, number;
+  int32_t imbalance[N], potential[N];
+  uint64_t cost;
+  size_t x;
+  number = mover_evaluate(N, a, M, b, M, lengths, M, before, N, after, N, 0, chain, N, imbalance, N, potential, N, plan, N * N, &cost,
+                          &moves);
+  if (number != MOVER_OK) {
+    refused(number);
+    return;
+  }
+  printf("  cost %" PRIu64 ", %" PRIu32 " moves\n  imbalance", cost, moves);
+  for (x = 0; x < N; x++) printf(" %" PRId32, imbalance[x]);
+  printf("\n  potential");
+  for (x = 0; x < N; x++) printf(" %" PRId32, potential[x]);
+  printf("\n");
+  print_moves(plan);
+  judge(before, after, chain);
+}
+
+static void methods(void) {
+  mover_tree tree = mover_tree_new(N, 0, chain, N);
+  size_t x;
+  printf("  vertex, depth, parent, vertices below\n");
+  for (x = 0; x < N; x++)
+    printf("  %zu %" PRIu32 " %" PRIu32 " 0x%02" PRIx64 "\n", x, mover_tree_depth(tree, x), mover_tree_parent(tree, x),
+           mover_tree_subtree(tree, x));
+}
+
+/* Writes an image with the chain, reads it back and runs it. */
+static void by_image(void) {
+  uint8_t image[MOVER_IMAGE_SIZE(N, M) + N + 1], record[MOVER_RECORD_SIZE(N)];
+  uint32_t read_a[M], read_b[M], read_lengths[M], parents[N], tree, number;
+  uint64_t mu[N], nu[N];
+  size_t n, m, root, x;
+  size_t length = mover_image_write(N, edges, M, before, after, 0, chain, image, sizeof image);
+  printf("  %zu bytes\n", length);
+  number = mover_read(image, length, read_a, M, read_b, M, read_lengths, M, mu, N, nu, N, parents, N, &n, &m, &root, &tree);
+  if (number != MOVER_OK) {
+    refused(number);
+    return;
+  }
+  printf("  %zu vertices, %zu edges, %s, root %zu\n", n, m, tree ? "a tree" : "no tree", root);
+  number = mover_run(image, length, record, sizeof record);
+  if (number != MOVER_OK) {
+    refused(number);
     return;
   }
   printf("  cost %" PRIu64 ", %" PRIu32 " moves\n", mover_cost(record), mover_moves(record));
   printf("  root %u, parents", mover_root(record));
-  for (size_t x = 0; x < N; x++) printf(" %u", mover_parent(record, x));
+  for (x = 0; x < N; x++) printf(" %u", mover_parent(record, x));
   printf("\n  potential");
-  for (size_t x = 0; x < N; x++) printf(" %" PRId32, mover_potential(record, N, x));
-  printf("\n");
-  for (size_t from = 0; from < N; from++)
-    for (size_t to = 0; to < N; to++) {
-      uint32_t amount = mover_amount(record, N, from, to);
-      if (amount > 0) printf("  %zu to %zu: %" PRIu32 "\n", from, to, amount);
-    }
+  for (x = 0; x < N; x++) printf(" %" PRId32, mover_potential(record, N, x));
+  printf("\n  stays at 1: %" PRIu32 "\n", mover_amount(record, N, 1, 1));
 }
 
 int main(void) {
-  static const uint32_t unequal[N] = {0, 0, 0, 0, 0, 999};
-  run("best answer", before, after, NULL);
-  run("a given tree", before, after, chain);
-  run("unequal totals", before, unequal, NULL);
+  static const uint64_t unequal[N] = {0, 0, 0, 0, 0, 999};
+  size_t e;
+  for (e = 0; e < M; e++) {
+    a[e] = edges[e].a;
+    b[e] = edges[e].b;
+    lengths[e] = edges[e].length;
+  }
+  distances();
+  printf("best answer\n");
+  best(before, after);
+  printf("a given tree\n");
+  given_tree();
+  methods();
+  printf("the same by an image\n");
+  by_image();
+  printf("unequal totals\n");
+  best(before, unequal);
   return 0;
 }

@@ -5,7 +5,28 @@
  * nu after. A plan says how much goes from which vertex to which; its cost is the sum of amount times
  * distance. The library finds a cheapest plan, or evaluates the plan of a spanning tree that is given.
  *
- * Link with libweight_mover.a on x86-64. All numbers in bytes are little-endian.
+ * Link one of two static archives, not both, for x86-64 Linux and its System V calling convention:
+ *
+ *   libhost_calls.a     every call below
+ *   libweight_mover.a   mover_run alone
+ *
+ * They need memcpy and memset of the C library and nothing else. This header serves both of them, in C99
+ * and C++11 and later. All numbers in bytes are little-endian.
+ *
+ * What holds for every call
+ *
+ * - No input is out of bounds: what is no graph, no tree or no image is refused by a number.
+ * - A call returns MOVER_OK and fills its answer tables, or returns the number of the first check that
+ *   fails, leaves every table as it was, and writes 0 through each pointer to a single result (cost,
+ *   moves, optimal, n, m, root, tree).
+ * - A table is a pointer and then a length, which counts elements. The pointer must be valid for that
+ *   many; with length 0 it may be NULL. A byte buffer may stand at any address, a table of numbers must
+ *   be aligned as its type asks. A pointer to a single result is not NULL.
+ * - A table that is filled and a single result overlap nothing else that the call is given. Tables that
+ *   are only read may overlap each other: mu and nu may be one table.
+ * - An answer table may be longer than is asked; what is past its answer is never written.
+ * - A call keeps nothing between calls, allocates nothing and writes nothing but its results, so that
+ *   several threads may call at once, each with results of its own.
  */
 #ifndef MOVER_H
 #define MOVER_H
@@ -13,31 +34,40 @@
 #include <stddef.h>
 #include <stdint.h>
 
+#define MOVER_VERSION 200 /* 0.2.0: major * 10000 + minor * 100 + patch */
+
+#define MOVER_MAX_VERTICES 64
+#define MOVER_MAX_EDGES 512
+#define MOVER_MAX_LENGTH 65535
+#define MOVER_MAX_TOTAL 16777216
+
+/* Bytes of stack that each call uses at most, whatever it is given: what was measured, and room for the
+ * dynamic linker, which may look up memcpy or memset at the first call. A thread has needs of its own
+ * besides; one that was made with MOVER_THREAD_STACK bytes can make every call. */
+#define MOVER_THREAD_STACK 65536
+#define MOVER_STACK_DISTANCES 8192
+#define MOVER_STACK_DISTANCES_OF_RECORDS 20480
+#define MOVER_STACK_EVALUATE 12288
+#define MOVER_STACK_IS_OPTIMAL 32768
+#define MOVER_STACK_SOLVE 16384
+#define MOVER_STACK_READ 8192
+#define MOVER_STACK_TREE 8192 /* each of mover_tree_new, _depth, _parent, _subtree */
+#define MOVER_STACK_RUN 40960
+
 #ifdef __cplusplus
 extern "C" {
 #endif
 
-/* Runs one image.
- *
- * An image with a tree is evaluated, one without a tree gets the best answer. Returns MOVER_OK and fills
- * the first MOVER_RECORD_SIZE(n) bytes of `record`, or returns one of the numbers below and leaves
- * `record` as it was. Bytes past the record are never written.
- *
- * Any bytes may be passed as an image: what is no image is refused. Both pointers must be valid for their
- * lengths, and the two buffers must not overlap.
- * The call keeps nothing between calls and writes nothing but the record, so that several threads
- * may call it at once, each with a record of its own.
- */
-uint32_t mover_run(const uint8_t *image, size_t image_len, uint8_t *record, size_t record_len);
-
-/* The answers of mover_run. Checks run in the order 11, 12, 13 and then 1 to 10; without a tree they
- * stop after 7. The first that fails gives the number. */
+/* The numbers that calls return. Checks run in the order 11, 12, 13 and then 1 to 10; each call says where
+ * it stops. The first that fails gives the number. */
 enum {
   MOVER_OK = 0,
   MOVER_REFUSED_VERTEX_COUNT = 1,    /* n is 0 or above 64 */
-  MOVER_REFUSED_TABLE_SIZE = 2,      /* m is above 512, or the record buffer is too short */
+  MOVER_REFUSED_TABLE_SIZE = 2,      /* there are more than 512 edges, the edge lists are unequal in length,
+                                        mu, nu or given parents are not n long, or an answer table or the
+                                        record buffer is too short */
   MOVER_REFUSED_EDGE_ORDER = 3,      /* an edge has b >= n or a >= b, or is not after its forerunner */
-  MOVER_REFUSED_EDGE_LENGTH = 4,     /* a length is 0 (above 65,535 no image can hold one) */
+  MOVER_REFUSED_EDGE_LENGTH = 4,     /* a length is 0 or above 65,535 */
   MOVER_REFUSED_NOT_CONNECTED = 5,   /* some vertex cannot be reached from vertex 0 */
   MOVER_REFUSED_TOTAL_TOO_LARGE = 6, /* a total is above 16,777,216 */
   MOVER_REFUSED_TOTALS_DIFFER = 7,   /* the totals of mu and nu differ */
@@ -50,6 +80,130 @@ enum {
                                         ends past the image */
   MOVER_REFUSED_SECTION_LENGTH = 13  /* byte 1 is not 0, or a section's length does not fit n and m */
 };
+
+/* A number as a line of text. */
+static inline const char *mover_refusal_text(uint32_t number) {
+  static const char *const texts[14] = {
+      "accepted",
+      "the number of vertices is 0 or above 64",
+      "there are more than 512 edges, or a table has the wrong length",
+      "an edge has ends that are no rising pair of vertices, or is out of order",
+      "an edge has length 0 or a length above 65535",
+      "some vertex cannot be reached from vertex 0",
+      "a total is above 16777216",
+      "the two totals differ",
+      "the root or a parent is no vertex, the root has another parent, or a second vertex is its own parent",
+      "a vertex and its parent share no edge",
+      "a chain of parents misses the root",
+      "the image has under 36 or over 65536 bytes",
+      "a section of the image is out of order or out of bounds",
+      "byte 1 of the image is not 0, or a section has the wrong length",
+  };
+  return number < 14 ? texts[number] : "no such number";
+}
+
+/* ---- Calls over tables (libhost_calls.a)
+ *
+ * Edges are three lists of one length m, at most 512: edge e joins the vertices a[e] < b[e] and is
+ * lengths[e] long. They stand strictly rising by (a, b). mu and nu have n amounts each. A tree is a root
+ * and n parents; the root is its own parent, and each other vertex shares an edge with its parent.
+ * A table of n x n numbers has row i from place i * n.
+ */
+
+/* One edge, for calls that take edges as records. */
+typedef struct mover_edge {
+  uint32_t a, b, length;
+} mover_edge;
+
+/* All distances: fills the first n x n places of `out`, which has at least so many, with the least length
+ * over all paths from i (row) to j (column). Refuses by 1 to 5. */
+uint32_t mover_distances(size_t n, const uint32_t *a, size_t a_len, const uint32_t *b, size_t b_len,
+                         const uint32_t *lengths, size_t lengths_len, uint32_t *out, size_t out_len);
+
+/* The same over a list of records. */
+uint32_t mover_distances_of_records(size_t n, const mover_edge *edges, size_t edges_len, uint32_t *out,
+                                    size_t out_len);
+
+/* Evaluates a given tree. mu, nu and parents are n long.
+ *
+ *   imbalance  at least n: mu - nu, summed over the vertices below each vertex
+ *   potential  at least n: over the edges from a vertex up to the root, the sum of the lengths, each with
+ *              the sign of the imbalance below it (+ where that is 0); 0 at the root
+ *   plan       at least n x n: amounts from (row) and to (column)
+ *   cost       over the edges of the tree, the sum of length times |imbalance|: what the plan costs on it
+ *   moves      the number of positive entries of the plan off its diagonal
+ *
+ * Refuses by 1 to 10. */
+uint32_t mover_evaluate(size_t n, const uint32_t *a, size_t a_len, const uint32_t *b, size_t b_len,
+                        const uint32_t *lengths, size_t lengths_len, const uint64_t *mu, size_t mu_len,
+                        const uint64_t *nu, size_t nu_len, size_t root, const uint32_t *parents,
+                        size_t parents_len, int32_t *imbalance, size_t imbalance_len, int32_t *potential,
+                        size_t potential_len, uint32_t *plan, size_t plan_len, uint64_t *cost,
+                        uint32_t *moves);
+
+/* Judges a given tree: `optimal` becomes 1 if no spanning tree of the graph costs less, else 0. mu, nu and
+ * parents are n long. Refuses by 1 to 10, and then `optimal` is 0. */
+uint32_t mover_is_optimal(size_t n, const uint32_t *a, size_t a_len, const uint32_t *b, size_t b_len,
+                          const uint32_t *lengths, size_t lengths_len, const uint64_t *mu, size_t mu_len,
+                          const uint64_t *nu, size_t nu_len, size_t root, const uint32_t *parents,
+                          size_t parents_len, uint32_t *optimal);
+
+/* The best answer. mu and nu are n long.
+ *
+ *   parents    at least n: a best spanning tree with root 0
+ *   potential  at least n: 0 at vertex 0; along no edge does it change by more than the edge's length, and
+ *              the sum of potential times (mu - nu) is the cost, so that no plan is cheaper
+ *   plan       at least n x n: the plan of that tree, amounts from (row) and to (column)
+ *   cost       the least cost of all plans and of all spanning trees
+ *   moves      the number of positive entries of the plan off its diagonal
+ *
+ * Refuses by 1 to 7. */
+uint32_t mover_solve(size_t n, const uint32_t *a, size_t a_len, const uint32_t *b, size_t b_len,
+                     const uint32_t *lengths, size_t lengths_len, const uint64_t *mu, size_t mu_len,
+                     const uint64_t *nu, size_t nu_len, uint32_t *parents, size_t parents_len,
+                     int32_t *potential, size_t potential_len, uint32_t *plan, size_t plan_len,
+                     uint64_t *cost, uint32_t *moves);
+
+/* Reads an image, described below, into tables, and judges nothing but its form.
+ *
+ *   a, b, lengths  at least m each: the edges
+ *   mu, nu         at least n each: the amounts
+ *   parents        at least n, even for an image without a tree: then it stays as it was
+ *   n, m           the numbers of vertices and edges
+ *   root, tree     the root and 1; without a tree 0 and 0
+ *
+ * The lists may be longer, and of unequal length. Refuses by 11, 12, 13, 1 and 2. */
+uint32_t mover_read(const uint8_t *image, size_t image_len, uint32_t *a, size_t a_len, uint32_t *b,
+                    size_t b_len, uint32_t *lengths, size_t lengths_len, uint64_t *mu, size_t mu_len,
+                    uint64_t *nu, size_t nu_len, uint32_t *parents, size_t parents_len, size_t *n, size_t *m,
+                    size_t *root, uint32_t *tree);
+
+/* ---- Trees by value (libhost_calls.a) */
+
+typedef struct mover_tree {
+  size_t n;
+  size_t root;
+  uint32_t parents[MOVER_MAX_VERTICES];
+} mover_tree;
+
+/* The tree with a root and a list of parents. Nothing is examined: of `parents` the first n places are
+ * taken (the first 64, and no more than there are), and every other place holds 0. */
+mover_tree mover_tree_new(size_t n, size_t root, const uint32_t *parents, size_t parents_len);
+
+/* What a tree tells of vertex v. If v >= n, n is above 64, the root or a parent is >= n, the root's parent
+ * is another vertex, a second vertex is its own parent, or a chain of parents misses the root, these are
+ * 0, 64 and 0. No edges are looked at. */
+uint32_t mover_tree_depth(mover_tree tree, size_t v);   /* the number of edges from v up to the root */
+uint32_t mover_tree_parent(mover_tree tree, size_t v);  /* the parent of v; the root's is the root */
+uint64_t mover_tree_subtree(mover_tree tree, size_t v); /* bit y for each vertex y that is v or is below it */
+
+/* ---- One image in, one record out (both archives)
+ *
+ * An image with a tree is evaluated, one without a tree gets the best answer. Returns MOVER_OK and fills
+ * the first MOVER_RECORD_SIZE(n) bytes of `record`, or returns a number and leaves `record` as it was.
+ * Checks run in the order 11, 12, 13 and then 1 to 10; without a tree they stop after 7. 2 is "m above 512
+ * or the record buffer too short", and an image can hold no length above 65,535. */
+uint32_t mover_run(const uint8_t *image, size_t image_len, uint8_t *record, size_t record_len);
 
 /* The image.
  *
@@ -64,14 +218,66 @@ enum {
  *
  * The sections come in this order from byte 36 on. Gaps between them and after them are ignored.
  */
-#define MOVER_MAX_VERTICES 64
-#define MOVER_MAX_EDGES 512
-#define MOVER_MAX_TOTAL 16777216
 #define MOVER_IMAGE_HEADER 36
 #define MOVER_IMAGE_MAX 65536
 
 /* Bytes of an image with its sections back to back; with a tree, add n + 1. */
 #define MOVER_IMAGE_SIZE(n, m) (MOVER_IMAGE_HEADER + 4 * (size_t)(m) + 8 * (size_t)(n))
+
+static inline void mover_put(uint8_t *at, uint64_t value, size_t bytes) {
+  size_t i;
+  for (i = 0; i < bytes; i++) at[i] = (uint8_t)(value >> 8 * i);
+}
+
+/* Whether each number fits the bytes that an image has for it. */
+static inline int mover_image_fits(size_t n, const mover_edge *edges, size_t edges_len, const uint64_t *mu,
+                                   const uint64_t *nu, size_t root, const uint32_t *parents) {
+  size_t i;
+  if (n > 255 || edges_len > 65535 || (parents && root > 255)) return 0;
+  for (i = 0; i < edges_len; i++)
+    if (edges[i].a > 255 || edges[i].b > 255 || edges[i].length > 65535) return 0;
+  for (i = 0; i < n; i++)
+    if (mu[i] > 4294967295u || nu[i] > 4294967295u || (parents && parents[i] > 255)) return 0;
+  return 1;
+}
+
+/* Writes an image with its sections back to back: n vertices, the edges, n amounts mu and n amounts nu,
+ * and a tree of a root and n parents; NULL for `parents` writes none. Returns how many bytes it wrote:
+ * MOVER_IMAGE_SIZE(n, edges_len), and n + 1 more for a tree.
+ * Returns 0 and writes nothing if image_len is less, or if a number does not fit its bytes: n, an end, the
+ * root or a parent above 255, a length or the number of edges above 65,535, an amount above 4,294,967,295.
+ * Nothing else is examined: that is for the calls that are given the image. */
+static inline size_t mover_image_write(size_t n, const mover_edge *edges, size_t edges_len, const uint64_t *mu,
+                                       const uint64_t *nu, size_t root, const uint32_t *parents, uint8_t *image,
+                                       size_t image_len) {
+  size_t lengths[4], at = MOVER_IMAGE_HEADER, i;
+  uint8_t *to;
+  if (!mover_image_fits(n, edges, edges_len, mu, nu, root, parents)) return 0;
+  lengths[0] = 4 * edges_len;
+  lengths[1] = lengths[2] = 4 * n;
+  lengths[3] = parents ? n + 1 : 0;
+  if (image_len < MOVER_IMAGE_SIZE(n, edges_len) + lengths[3]) return 0;
+  to = image + MOVER_IMAGE_HEADER;
+  mover_put(image, n, 2);
+  mover_put(image + 2, edges_len, 2);
+  for (i = 0; i < 4; i++) {
+    mover_put(image + 4 + 8 * i, at, 4);
+    mover_put(image + 8 + 8 * i, lengths[i], 4);
+    at += lengths[i];
+  }
+  for (i = 0; i < edges_len; i++, to += 4) {
+    mover_put(to, edges[i].a, 1);
+    mover_put(to + 1, edges[i].b, 1);
+    mover_put(to + 2, edges[i].length, 2);
+  }
+  for (i = 0; i < n; i++, to += 4) mover_put(to, mu[i], 4);
+  for (i = 0; i < n; i++, to += 4) mover_put(to, nu[i], 4);
+  if (parents) {
+    mover_put(to++, root, 1);
+    for (i = 0; i < n; i++) mover_put(to++, parents[i], 1);
+  }
+  return at;
+}
 
 /* The record, for n vertices:
  *
@@ -82,8 +288,7 @@ enum {
  *   MOVER_AT_POTENTIAL(n)  n potentials, 4 bytes each, signed
  *   MOVER_AT_PLAN(n)       n x n amounts, 4 bytes each: row from, column to
  *
- * In a best answer the potential is 0 at vertex 0, changes along no edge by more than the edge's length,
- * and the sum of potential times (mu - nu) is the cost: it proves that no plan is cheaper.
+ * They are those of mover_evaluate, or of mover_solve.
  */
 #define MOVER_AT_COST 0
 #define MOVER_AT_MOVES 8

@@ -1,8 +1,7 @@
 pub mod Bools
-pub mod Sum
-pub mod Product
 pub mod Table
-pub mod Matrix
-pub mod Mask
+pub mod Sum
 pub mod Integer
+pub mod Mask
 pub mod Refusal
+pub mod Steps

@@ -1,3 +1,3 @@
 pub mod Distances
-pub mod FloydWarshall
 pub mod Records
+pub mod Steps

@@ -4,22 +4,16 @@ ghost use mathlib.Core.Bool.{true, cond};
 ghost use Prim.Native.Nat.{_+_, _*_, _≤_, _<_, min};
 ghost use lib.Dec.{eqb};
 ghost use lib.ListN.{length, set};
-ghost use Rattle.arithmetic.specs.Table.{cell};
-ghost use Rattle.arithmetic.specs.Matrix.{filled};
+ghost use Rattle.arithmetic.specs.Steps.Table.{cell};
+ghost use Rattle.arithmetic.specs.Steps.Matrix.{filled};
 ghost use Rattle.graph.specs.Graph.{graph, joined, edgeLength};
 ghost use Rattle.graph.specs.Checks.{verticesOk, listsOk, edgesOk, lengthsOk};
 ghost use Rattle.graph.specs.Distance.{far, via, distance};
-ghost use Rattle.distances.specs.FloydWarshall.{Bounded, shorter};
+ghost use Rattle.distances.specs.Steps.FloydWarshall.{Bounded, shorter};
+use numbers::smaller;
 
 // Stands for "no path": more than any shortest path's length.
 const FAR: u32 = 429_496_700;
-
-// The smaller of two lengths.
-fn smaller(x: u32, y: u32) -> u32
-    ensures { λ r. ⌜ r ≡ min x y ⌝ }
-{
-    if x < y { x } else { y }
-}
 
 // Stores v in row i, column j.
 fn put(n: usize, i: usize, j: usize, v: u32, out: &mut [u32])

@@ -17,18 +17,8 @@ pub fn distances(n: usize, a: &[u32], b: &[u32], lengths: &[u32], out: &mut [u32
 {
     let mut parents = [0u32; 64];
     let mut edge = [0u32; 64];
-    let mut labels = [0u32; 64];
     let room = edges::square_fits(n, out.len());
-    let refusal = shortest_paths::check(
-        n,
-        a,
-        b,
-        lengths,
-        room,
-        &mut parents,
-        &mut edge,
-        &mut labels,
-    );
+    let refusal = shortest_paths::check(n, a, b, lengths, room, &mut parents, &mut edge);
     if refusal != 0 {
         return refusal;
     }

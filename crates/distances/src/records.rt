@@ -3,7 +3,8 @@ ghost use mathlib.Core.Path.{_≡_};
 ghost use Prim.Native.Nat.{_≤_, min};
 ghost use lib.ListN.{length};
 ghost use Rattle.distances.specs.Distances.{distancesRefusal, distancesTable};
-ghost use Rattle.distances.specs.Records.{graphOf, taken, Full, OfColumns};
+ghost use Rattle.distances.specs.Records.{graphOf};
+ghost use Rattle.distances.specs.Steps.Records.{taken, Full, OfColumns};
 use graph::edges;
 
 #[repr(C)]

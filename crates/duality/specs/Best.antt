@@ -8,7 +8,7 @@ use Rattle.arithmetic.specs.Table.{at}
 use Rattle.graph.specs.Graph.{Graph, edges}
 use Rattle.graph.specs.Distance.{distance}
 use Rattle.graph.specs.SpanningTree.{SpanningTree}
-use Rattle.tree_evaluation.specs.Weigh.{difference, treeCost}
+use Rattle.tree_figures.specs.Figures.{difference, treeCost}
 
 -- "A plan is any n × n table of whole numbers from 0 with row sums mu and column sums nu"
 pub record Plan (n : ℕ) (mu nu : ℕ → ℕ) (t : ℕ → ℕ → ℕ) : Type 0 where

@@ -7,7 +7,7 @@ use Rattle.arithmetic.specs.Refusal.{refusal}
 use Rattle.arithmetic.specs.Table.{at, tab}
 use Rattle.graph.specs.Graph.{Graph}
 use Rattle.tree_checks.specs.Checks.{treeChecks}
-use Rattle.tree_evaluation.specs.Weigh.{treeCost}
+use Rattle.tree_figures.specs.Figures.{treeCost}
 
 -- the least of some numbers; 0 if there are none
 unfoldable pub least : List ℕ → ℕ

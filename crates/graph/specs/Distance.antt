@@ -1,6 +1,6 @@
 -- The distance d(i, j). That it is the least length over all paths is `distance-least`.
 use Prim.Native.Nat.{ℕ, zero, suc, _+_, min}
-use mathlib.Core.Bool.{true, false, cond}
+use mathlib.Core.Bool.{cond}
 use lib.Dec.{eqb}
 use Rattle.graph.specs.Graph.{Graph, joined, edgeLength}
 

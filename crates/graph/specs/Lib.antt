@@ -1,12 +1,5 @@
 pub mod Graph
-pub mod Path
+pub mod Checks
 pub mod Distance
 pub mod SpanningTree
-pub mod Checks
-pub mod Accepted
-pub mod EdgeLaws
-pub mod PathLaws
-pub mod ConnectedLaws
-pub mod DistanceLaws
-pub mod EdgeTree
-pub mod Spanned
+pub mod Steps

@@ -30,40 +30,29 @@ pub fn lists_fit(a: &[u32], b: &[u32], lengths: &[u32]) -> bool
 }
 
 // Edge e has ends below n, the lower one first, and stands after its forerunner.
-fn edge_fits(n: usize, a: &[u32], b: &[u32], e: usize) -> bool
+fn edge_fits(n: u32, a: &[u32], b: &[u32], e: usize) -> bool
     requires { ⌜ (length (now b) ≡ length (now a)) × (e < length (now a)) ⌝ }
     ensures { λ r. ⌜ r ≡ edgeFits n (now (a .entry)) (now (b .entry)) e ⌝ }
 {
     let x = a[e];
     let y = b[e];
-    if y as usize >= n {
-        return false;
-    }
-    if x >= y {
-        return false;
-    }
     if e == 0 {
-        return true;
+        return (y < n) & (x < y);
     }
     let last = a[e - 1];
-    if last == x {
-        return b[e - 1] < y;
-    }
-    last < x
+    (y < n) & ((x < y) & ((last < x) | ((last == x) & (b[e - 1] < y))))
 }
 
+// Every edge is looked at, with no branch on what is found, so that four are tested at a time.
 pub fn edges_fit(n: usize, a: &[u32], b: &[u32]) -> bool
-    requires { ⌜ length (now b) ≡ length (now a) ⌝ }
+    requires { ⌜ (n ≤ 64) × (length (now b) ≡ length (now a)) ⌝ }
     ensures { λ r. ⌜ r ≡ all (length (now (a .entry))) (edgeFits n (now (a .entry)) (now (b .entry))) ⌝ }
 {
-    let mut e = 0;
-    while e < a.len() {
-        if !edge_fits(n, a, b, e) {
-            return false;
-        }
-        e += 1;
+    let mut fits = true;
+    for e in 0..a.len() {
+        fits &= edge_fits(n as u32, a, b, e);
     }
-    true
+    fits
 }
 
 // Each of the first m lengths is from 1 to 65,535.
@@ -71,18 +60,12 @@ pub fn lengths_fit(m: usize, lengths: &[u32]) -> bool
     requires { ⌜ m ≤ length (now lengths) ⌝ }
     ensures { λ r. ⌜ r ≡ all m (lengthFits (now (lengths .entry))) ⌝ }
 {
-    let mut e = 0;
-    while e < m {
+    let mut fits = true;
+    for e in 0..m {
         let s = lengths[e];
-        if s == 0 {
-            return false;
-        }
-        if s > 65535 {
-            return false;
-        }
-        e += 1;
+        fits &= (0 < s) & (s <= 65535);
     }
-    true
+    fits
 }
 
 // Whether n rows of n numbers fit into so many places.

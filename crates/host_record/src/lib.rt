@@ -5,54 +5,14 @@ ghost use Prim.Native.Nat.{_+_, _*_, _≤_, _<_};
 ghost use lib.ListN.{length, getD};
 ghost use lib.IntN.{pos};
 ghost use Rattle.arithmetic.specs.Table.{at, tab, written};
-ghost use Rattle.host_record.specs.Record.{byteOf, fields, signed, recordBytes, recordSize};
-ghost use Rattle.host_record.specs.Placed.{placed};
+ghost use Rattle.little_endian.specs.LittleEndian.{byteOf, fields, signed};
+ghost use Rattle.little_endian.specs.Steps.Buffer.{placed};
+ghost use Rattle.host_record.specs.Record.{recordBytes, recordSize};
+use little_endian::write::bits_of;
+use little_endian::write::put_byte;
+use little_endian::write::put_long;
+use little_endian::write::put_word;
 use spanning_tree::tree::Tree;
-
-// The 32 bits of z.
-fn bits_of(z: i32) -> u32
-    ensures { λ r. ⌜ r ≡ signed z ⌝ }
-{
-    if z < 0 {
-        (z as i64 + 4294967296) as u32
-    } else {
-        z as u32
-    }
-}
-
-// One byte of v, at place p.
-fn put_byte(p: usize, v: u32, out: &mut [u8])
-    requires { ⌜ p < length (now out) ⌝ }
-    ensures { λ _. ⌜ now (out .exit) ≡ placed p (tab 1 (byteOf v)) (now (out .entry)) ⌝ }
-{
-    out[p] = (v % 256) as u8;
-}
-
-// Four bytes of x, from place p on.
-fn put_word(p: usize, x: u32, out: &mut [u8])
-    requires { ⌜ p + 4 ≤ length (now out) ⌝ }
-    ensures { λ _. ⌜ now (out .exit) ≡ placed p (tab 4 (byteOf x)) (now (out .entry)) ⌝ }
-{
-    out[p] = (x % 256) as u8;
-    out[p + 1] = (x / 256 % 256) as u8;
-    out[p + 2] = (x / 65536 % 256) as u8;
-    out[p + 3] = (x / 16777216 % 256) as u8;
-}
-
-// Eight bytes of x.
-fn put_long(x: u64, out: &mut [u8])
-    requires { ⌜ 8 ≤ length (now out) ⌝ }
-    ensures { λ _. ⌜ now (out .exit) ≡ placed 0 (tab 8 (byteOf x)) (now (out .entry)) ⌝ }
-{
-    out[0] = (x % 256) as u8;
-    out[1] = (x / 256 % 256) as u8;
-    out[2] = (x / 65536 % 256) as u8;
-    out[3] = (x / 16777216 % 256) as u8;
-    out[4] = (x / 4294967296 % 256) as u8;
-    out[5] = (x / 1099511627776 % 256) as u8;
-    out[6] = (x / 281474976710656 % 256) as u8;
-    out[7] = (x / 72057594037927936 % 256) as u8;
-}
 
 // Cost, moves and root.
 fn write_figures(cost: u64, moves: u32, root: u32, out: &mut [u8])
@@ -60,7 +20,7 @@ fn write_figures(cost: u64, moves: u32, root: u32, out: &mut [u8])
     ensures { λ _. ⌜ now (out .exit)
         ≡ placed 0 (tab 8 (byteOf cost) ++ tab 4 (byteOf moves) ++ tab 1 (byteOf root)) (now (out .entry)) ⌝ }
 {
-    put_long(cost, out);
+    put_long(0, cost, out);
     put_word(8, moves, out);
     put_byte(12, root, out);
 }

@@ -6,13 +6,7 @@ use lib.ListN.{length}
 use lib.Dec.{eqb, leb}
 use Rattle.arithmetic.specs.Bools.{all}
 use Rattle.arithmetic.specs.Table.{at}
-
--- "numbers in bytes are little-endian": two bytes and four bytes from place k
-unfoldable pub two : List ℕ → ℕ → ℕ
-two s k = at s k + 256 * at s (k + 1)
-
-abbrev pub four : List ℕ → ℕ → ℕ
-four s k = two s k + 65536 * two s (k + 2)
+use Rattle.little_endian.specs.LittleEndian.{two, four}
 
 -- "byte 0 is n, byte 1 is 0, bytes 2–3 are m"
 abbrev pub vertexCount : List ℕ → ℕ

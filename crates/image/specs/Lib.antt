@@ -1,4 +1,2 @@
 pub mod Image
-pub mod Read
-pub mod Bytes
-pub mod ReadLaws
+pub mod ImageChecks

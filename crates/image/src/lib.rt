@@ -1,61 +1,209 @@
-// The image format: checks 11 to 13 and the reader.
-mod bytes; // numbers in bytes, and lists of them
-mod checks; // the reader's checks, and the header's fields
-mod sections; // what the sections hold
+// The image format: the header's fields, and the checks of an image, 11, 12, 13, 1 and 2.
+ghost use mathlib.Core.Path.{_≡_};
+ghost use mathlib.Core.Bool.{_&&_, _||_};
+ghost use Prim.Native.Nat.{_-_, _≤_, _<_};
+ghost use lib.ListN.{length};
+ghost use lib.Dec.{eqb, leb};
+ghost use Rattle.arithmetic.specs.Refusal.{refusal};
+ghost use Rattle.graph.specs.Checks.{verticesOk};
+ghost use Rattle.image.specs.Image.{vertexCount, edgeCount, firstOffset, sectionCount, sizeOk, sectionOk, sectionsOk, layoutOk, offset as offsetOf, extent as extentOf, end as endOf};
+ghost use Rattle.image.specs.ImageChecks.{imageChecks, roomIn};
+use graph::edges::vertices_fit;
+use little_endian::read::get;
+use little_endian::read::get_four;
+use little_endian::read::get_two;
 
-ghost use Rattle.image.specs.Read.{Read, lists};
-use checks::edge_count;
-use checks::read_refusal;
-use checks::vertex_count;
-use sections::fill_amounts;
-use sections::fill_edges;
-use sections::fill_parents;
-use sections::root;
-use sections::tree_mark;
+// How many sections an image has.
+const SECTIONS: usize = 4;
 
-// What the reader returns: the refusal number and, after a success, n, m, the tree's root and 1 for a tree.
-pub struct Reading {
-    pub refusal: u32,
-    pub n: usize,
-    pub m: usize,
-    pub root: usize,
-    pub tree: u32,
+// Where the first of them may start.
+const FIRST_OFFSET: usize = 36;
+
+// Which of them is the tree.
+pub const TREE: usize = 3;
+
+// The number of vertices.
+pub fn vertex_count(image: &[u8]) -> usize
+    requires { ⌜ firstOffset (now image) ≤ length (now image) ⌝ }
+    ensures { λ r. ⌜ (r ≡ vertexCount (now (image .entry))) × (r < 256) ⌝ }
+{
+    get(image, 0) as usize
 }
 
-// Reads an image into lent lists: all of them, or none after a refusal.
-pub fn read(
-    image: &[u8],
-    a: &mut [u32],
-    b: &mut [u32],
-    lengths: &mut [u32],
-    mu: &mut [u64],
-    nu: &mut [u64],
-    parents: &mut [u32],
-) -> Reading
-    ensures { λ r. ⌜ Read (now (image .entry))
-        (lists (now (a .entry)) (now (b .entry)) (now (lengths .entry)) (now (mu .entry)) (now (nu .entry)) (now (parents .entry)))
-        (r .refusal) (r .n) (r .m) (r .root) (r .tree)
-        (lists (now (a .exit)) (now (b .exit)) (now (lengths .exit)) (now (mu .exit)) (now (nu .exit)) (now (parents .exit))) ⌝ }
+// The number of edges.
+pub fn edge_count(image: &[u8]) -> usize
+    requires { ⌜ firstOffset (now image) ≤ length (now image) ⌝ }
+    ensures { λ r. ⌜ (r ≡ edgeCount (now (image .entry))) × (r < 65536) ⌝ }
 {
-    let refusal = read_refusal(image, a, b, lengths, mu, nu, parents);
-    if refusal != 0 {
-        return Reading {
-            refusal,
-            n: 0,
-            m: 0,
-            root: 0,
-            tree: 0,
-        };
+    get_two(image, 2) as usize
+}
+
+// Where section t starts.
+pub fn offset(image: &[u8], t: usize) -> usize
+    requires { ⌜ (firstOffset (now image) ≤ length (now image)) × (t < sectionCount (now image)) ⌝ }
+    ensures { λ r. ⌜ (r ≡ offsetOf (now (image .entry)) t) × (r < 4294967296) ⌝ }
+{
+    get_four(image, 4 + 8 * t) as usize
+}
+
+// How many bytes section t has.
+pub fn extent(image: &[u8], t: usize) -> usize
+    requires { ⌜ (firstOffset (now image) ≤ length (now image)) × (t < sectionCount (now image)) ⌝ }
+    ensures { λ r. ⌜ (r ≡ extentOf (now (image .entry)) t) × (r < 4294967296) ⌝ }
+{
+    get_four(image, 8 + 8 * t) as usize
+}
+
+// Where section t ends.
+fn end(image: &[u8], t: usize) -> usize
+    requires { ⌜ (firstOffset (now image) ≤ length (now image)) × (t < sectionCount (now image)) ⌝ }
+    ensures { λ r. ⌜ r ≡ endOf (now (image .entry)) t ⌝ }
+{
+    offset(image, t) + extent(image, t)
+}
+
+// Check 11.
+fn size_ok(image: &[u8]) -> bool
+    ensures { λ r. ⌜ r ≡ sizeOk (now (image .entry)) ⌝ }
+{
+    FIRST_OFFSET <= image.len() && image.len() <= 65536
+}
+
+// Section t does not start before its forerunner's end.
+fn follows(image: &[u8], t: usize) -> bool
+    requires { ⌜ (firstOffset (now image) ≤ length (now image)) × (t < sectionCount (now image)) ⌝ }
+    ensures { λ r. ⌜ r ≡ eqb t 0 || leb (endOf (now (image .entry)) (t - 1)) (offsetOf (now (image .entry)) t) ⌝ }
+{
+    if t == 0 {
+        return true;
     }
-    fill_edges(image, a, b, lengths);
-    fill_amounts(image, 0, mu);
-    fill_amounts(image, 1, nu);
-    fill_parents(image, parents);
-    Reading {
-        refusal: 0,
-        n: vertex_count(image),
-        m: edge_count(image),
-        root: root(image),
-        tree: tree_mark(image),
+    end(image, t - 1) <= offset(image, t)
+}
+
+// Check 12 of section t.
+fn section_ok(image: &[u8], t: usize) -> bool
+    requires { ⌜ (firstOffset (now image) ≤ length (now image)) × (t < sectionCount (now image)) ⌝ }
+    ensures { λ r. ⌜ r ≡ sectionOk (now (image .entry)) t ⌝ }
+{
+    if offset(image, t) < FIRST_OFFSET {
+        return false;
     }
+    if !follows(image, t) {
+        return false;
+    }
+    end(image, t) <= image.len()
+}
+
+// Check 12.
+fn sections_ok(image: &[u8]) -> bool
+    requires { ⌜ firstOffset (now image) ≤ length (now image) ⌝ }
+    ensures { λ r. ⌜ r ≡ sectionsOk (now (image .entry)) ⌝ }
+{
+    for t in 0..SECTIONS {
+        if !section_ok(image, t) {
+            return false;
+        }
+    }
+    true
+}
+
+// Check 13.
+fn layout_ok(image: &[u8]) -> bool
+    requires { ⌜ firstOffset (now image) ≤ length (now image) ⌝ }
+    ensures { λ r. ⌜ r ≡ layoutOk (now (image .entry)) ⌝ }
+{
+    let n = vertex_count(image);
+    if get(image, 1) != 0 {
+        return false;
+    }
+    if extent(image, 0) != 4 * edge_count(image) {
+        return false;
+    }
+    if extent(image, 1) != 4 * n {
+        return false;
+    }
+    if extent(image, 2) != 4 * n {
+        return false;
+    }
+    let tree = extent(image, TREE);
+    if tree == 0 {
+        return true;
+    }
+    tree == n + 1
+}
+
+// Check 1.
+fn vertices_ok(image: &[u8]) -> bool
+    requires { ⌜ firstOffset (now image) ≤ length (now image) ⌝ }
+    ensures { λ r. ⌜ r ≡ verticesOk (vertexCount (now (image .entry))) ⌝ }
+{
+    vertices_fit(vertex_count(image))
+}
+
+// Tables of these three lengths have room for n numbers each.
+fn room(n: usize, x: usize, y: usize, z: usize) -> bool
+    ensures { λ r. ⌜ r ≡ roomIn n x y z ⌝ }
+{
+    if n > x {
+        return false;
+    }
+    if n > y {
+        return false;
+    }
+    n <= z
+}
+
+// Check 2: few enough edges, and room for all that is read. a to parents are the lengths of the tables for it.
+fn tables_ok(
+    image: &[u8],
+    a: usize,
+    b: usize,
+    lengths: usize,
+    mu: usize,
+    nu: usize,
+    parents: usize,
+) -> bool
+    requires { ⌜ firstOffset (now image) ≤ length (now image) ⌝ }
+    ensures { λ r. ⌜ r ≡ leb (edgeCount (now (image .entry))) 512
+        && (roomIn (edgeCount (now (image .entry))) a b lengths && roomIn (vertexCount (now (image .entry))) mu nu parents) ⌝ }
+{
+    let m = edge_count(image);
+    if m > 512 {
+        return false;
+    }
+    if !room(m, a, b, lengths) {
+        return false;
+    }
+    room(vertex_count(image), mu, nu, parents)
+}
+
+// The number of the first of checks 11, 12, 13, 1 and 2 that fails, or 0, for tables of these lengths.
+pub fn read_refusal(
+    image: &[u8],
+    a: usize,
+    b: usize,
+    lengths: usize,
+    mu: usize,
+    nu: usize,
+    parents: usize,
+) -> u32
+    ensures { λ r. ⌜ r ≡ refusal (imageChecks (now (image .entry))
+        (roomIn (edgeCount (now (image .entry))) a b lengths && roomIn (vertexCount (now (image .entry))) mu nu parents)) ⌝ }
+{
+    if !size_ok(image) {
+        return 11;
+    }
+    if !sections_ok(image) {
+        return 12;
+    }
+    if !layout_ok(image) {
+        return 13;
+    }
+    if !vertices_ok(image) {
+        return 1;
+    }
+    if !tables_ok(image, a, b, lengths, mu, nu, parents) {
+        return 2;
+    }
+    0
 }

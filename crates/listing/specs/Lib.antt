@@ -1,4 +1,1 @@
 pub mod Listing
-pub mod Wrote
-pub mod ListingLaws
-pub mod ListedLaws

@@ -1,23 +1,15 @@
 -- Document 01, "listing": what the program prints, byte for byte.
-use Prim.Native.Nat.{ℕ, zero, suc, _+_, _/_, _%_}
+use Prim.Native.Nat.{ℕ, zero, suc}
 use mathlib.Core.Path.{_≡_}
 use mathlib.Core.Bool.{true, cond}
 use mathlib.Core.List.{List, [], _∷_, _++_}
 use lib.Dec.{eqb, ltb}
 use lib.ListN.{length}
 use Rattle.arithmetic.specs.Table.{written}
-use Rattle.transport_plan.specs.Plan.{moves}
+use Rattle.plan_rule.specs.Plan.{moves}
 use Rattle.image.specs.Image.{hasTree, vertexCount, rootOf, parentOf}
-use Rattle.weight_mover.specs.Run.{answerRefusal, imagePlan, weighedCost, imageBestCost}
-
--- x in base ten, of at most k digits, without leading zeros
-unfoldable pub digits : ℕ → ℕ → List ℕ
-digits zero x = []
-digits (suc k) x = cond (ltb x 10) ((48 + x) ∷ []) (digits k (x / 10) ++ ((48 + x % 10) ∷ []))
-
--- any number of 64 bits
-abbrev pub decimal : ℕ → List ℕ
-decimal x = digits 20 x
+use Rattle.image_answer.specs.ImageAnswer.{answerRefusal, imagePlan, imageBestCost, evaluatedCost}
+use Rattle.decimal_text.specs.Decimal.{decimal}
 
 -- a word, a space, a number and the end of the line
 abbrev pub line : List ℕ → ℕ → List ℕ
@@ -50,9 +42,9 @@ planLines t n zero = []
 planLines t n (suc k) = planLines t n k ++ rowLines (t k) k n
 
 -- "With a tree it prints `cost`, `moves`, then each positive plan entry"
-unfoldable pub weighedListing : List ℕ → List ℕ
-weighedListing s =
-    line costWord (weighedCost s) ++ (line movesWord (moves (vertexCount s) (imagePlan s (rootOf s) (parentOf s)))
+unfoldable pub evaluatedListing : List ℕ → List ℕ
+evaluatedListing s =
+    line costWord (evaluatedCost s) ++ (line movesWord (moves (vertexCount s) (imagePlan s (rootOf s) (parentOf s)))
     ++ planLines (imagePlan s (rootOf s) (parentOf s)) (vertexCount s) (vertexCount s))
 
 -- "Without one it prints `best` and the cost"
@@ -62,7 +54,7 @@ bestListing s = line bestWord (imageBestCost s)
 -- what is printed for the image s; "A refusal prints `refused` and the number"
 unfoldable pub listing : List ℕ → List ℕ
 listing s =
-    cond (eqb (answerRefusal s true) 0) (cond (hasTree s) (weighedListing s) (bestListing s))
+    cond (eqb (answerRefusal s true) 0) (cond (hasTree s) (evaluatedListing s) (bestListing s))
     (line refusedWord (answerRefusal s true))
 
 -- the listing of the image s was written into a lent buffer

@@ -1,55 +1,17 @@
-// The listing, written into a lent buffer: each writer puts its text from a place on and returns the place behind it.
+// The listing, written into a lent buffer.
 ghost use mathlib.Core.Path.{_≡_};
-ghost use mathlib.Core.List.{[], _∷_, _++_};
+ghost use mathlib.Core.List.{_++_};
 ghost use Prim.Native.Nat.{_+_, _*_, _≤_, _<_};
 ghost use lib.ListN.{length};
-ghost use Rattle.arithmetic.specs.Table.{cell, written};
-ghost use Rattle.listing.specs.Listing.{decimal, line, costWord, movesWord, bestWord, refusedWord, entryLine, rowLines, planLines, Listed};
-ghost use Rattle.listing.specs.Wrote.{Wrote};
-use weight_mover::answer::answer_image;
-
-// One byte.
-fn write_byte(b: u8, from: usize, out: &mut [u8]) -> usize
-    requires { ⌜ from < length (now out) ⌝ }
-    ensures { λ r. ⌜ Wrote from (b ∷ []) (now (out .entry)) (now (out .exit)) r ⌝ }
-{
-    out[from] = b;
-    from + 1
-}
-
-// A word.
-fn write_word(word: &[u8], from: usize, out: &mut [u8]) -> usize
-    requires { ⌜ from + length (now word) ≤ length (now out) ⌝ }
-    ensures { λ r. ⌜ Wrote from (now (word .entry)) (now (out .entry)) (now (out .exit)) r ⌝ }
-{
-    let mut i = 0;
-    while i < word.len() {
-        out[from + i] = word[i];
-        i += 1;
-    }
-    from + i
-}
-
-// x in base ten, the last digit behind the others.
-fn write_number(x: u64, from: usize, out: &mut [u8]) -> usize
-    requires { ⌜ from + length (decimal x) ≤ length (now out) ⌝ }
-    ensures { λ r. ⌜ Wrote from (decimal x) (now (out .entry)) (now (out .exit)) r ⌝ }
-{
-    if x < 10 {
-        return write_byte((48 + x) as u8, from, out);
-    }
-    let last = write_number(x / 10, from, out);
-    write_byte((48 + x % 10) as u8, last, out)
-}
-
-// A space and x.
-fn write_spaced(x: u64, from: usize, out: &mut [u8]) -> usize
-    requires { ⌜ from + length (decimal x) < length (now out) ⌝ }
-    ensures { λ r. ⌜ Wrote from (32 ∷ decimal x) (now (out .entry)) (now (out .exit)) r ⌝ }
-{
-    let at = write_byte(32, from, out);
-    write_number(x, at, out)
-}
+ghost use Rattle.arithmetic.specs.Steps.Table.{cell};
+ghost use Rattle.arithmetic.specs.Table.{written};
+ghost use Rattle.decimal_text.specs.Steps.Wrote.{Wrote};
+ghost use Rattle.listing.specs.Listing.{line, costWord, movesWord, bestWord, refusedWord, entryLine, rowLines, planLines, Listed};
+use decimal_text::write_byte;
+use decimal_text::write_number;
+use decimal_text::write_spaced;
+use decimal_text::write_word;
+use image_answer::answer_image;
 
 // A word and x.
 fn write_line(word: &[u8], x: u64, from: usize, out: &mut [u8]) -> usize
@@ -101,8 +63,8 @@ fn write_rows(n: usize, plan: &[u32], from: usize, out: &mut [u8]) -> usize
     at
 }
 
-// The listing of a weighed tree.
-fn write_weighed(n: usize, cost: u64, moves: u64, plan: &[u32], out: &mut [u8]) -> usize
+// The listing of an evaluated tree.
+fn write_evaluated(n: usize, cost: u64, moves: u64, plan: &[u32], out: &mut [u8]) -> usize
     requires { ⌜ (n ≤ 64) × (n * n ≤ length (now plan)) × (131072 ≤ length (now out)) ⌝ }
     ensures text { λ r. ⌜ now (out .exit) ≡ written 0
         (line costWord cost ++ (line movesWord moves ++ planLines (cell n (now (plan .entry))) n n)) (now (out .entry)) ⌝ }
@@ -148,5 +110,5 @@ pub fn write_listing(image: &[u8], out: &mut [u8; 131072]) -> usize
     if found.given == 0 {
         return write_best(cost, out);
     }
-    write_weighed(found.tree.n, cost, moves, &plan, out)
+    write_evaluated(found.tree.n, cost, moves, &plan, out)
 }

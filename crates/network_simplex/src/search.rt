@@ -5,10 +5,9 @@ ghost use Prim.Native.Nat.{_≤_};
 ghost use lib.ListN.{length};
 ghost use Rattle.arithmetic.specs.Table.{at};
 ghost use Rattle.graph.specs.Graph.{graph};
-ghost use Rattle.pivot_rules.specs.Entering.{Reaches};
-ghost use Rattle.network_simplex.specs.FirstBasis.{CanStart};
-ghost use Rattle.network_simplex.specs.Search.{ExchangeInput, Exchanged, CanImprove, Improved, CanSearch, Optimized, BestTree};
-use crate::first_basis;
+ghost use Rattle.pivot_rules.specs.Steps.Entering.{Reaches};
+ghost use Rattle.first_basis.specs.Steps.FirstBasis.{CanStart};
+ghost use Rattle.network_simplex.specs.Steps.Search.{ExchangeInput, Exchanged, CanImprove, Improved, CanSearch, Optimized, BestTree};
 use pivot_rules::entering;
 use pivot_rules::leaving;
 use spanning_tree::tree::Tree;
@@ -217,7 +216,7 @@ pub fn best_tree(
     let mut supply = [0u64; 64];
     let mut demand = [0u64; 64];
     let mut masks = [0u64; 64];
-    first_basis::first_basis(
+    first_basis::tree_basis(
         n,
         lengths,
         mu,

@@ -1,3 +1,1 @@
 pub mod Solve
-pub mod Judge
-pub mod SolveLaws

@@ -1,32 +1,21 @@
 -- The best call: its refusal number, and its whole outcome.
 use Prim.Native.Nat.{ℕ}
 use mathlib.Core.Path.{_≡_}
-use mathlib.Core.Bool.{Bool, _&&_}
-use mathlib.Core.List.{List, _++_}
+use mathlib.Core.List.{List}
 use lib.ListN.{length}
-use lib.Dec.{eqb}
 use lib.IntN.{ℤ}
-use Rattle.arithmetic.specs.Refusal.{Check, refusal}
+use Rattle.arithmetic.specs.Refusal.{refusal}
 use Rattle.arithmetic.specs.Table.{at, tab, matrix, result, written}
 use Rattle.graph.specs.Graph.{Graph}
-use Rattle.graph.specs.Checks.{graphChecks}
-use Rattle.tree_checks.specs.Checks.{measureChecks}
 use Rattle.spanning_tree.specs.Given.{answersOk}
-use Rattle.transport_plan.specs.Plan.{plan, moves}
+use Rattle.plan_rule.specs.Plan.{plan, moves}
 use Rattle.duality.specs.Best.{Best}
 use Rattle.duality.specs.BestCost.{bestCost}
-
--- 2: "painting not n long, or an answer table too short"; `answers` is what a call says of its answer tables
-unfoldable pub measuresLong : ℕ → List ℕ → List ℕ → Bool → Bool
-measuresLong n mu nu answers = eqb (length mu) n && (eqb (length nu) n && answers)
-
--- 1 to 7
-abbrev pub solveChecks : Graph → List ℕ → List ℕ → Bool → List Check
-solveChecks g mu nu answers = graphChecks g (measuresLong (g .n) mu nu answers) ++ measureChecks (g .n) (at mu) (at nu)
+use Rattle.transport_problem.specs.Checks.{problemChecks}
 
 -- "the best call after 7"; its answer tables are those of the parents, the potential and the plan
 unfoldable pub solveRefusal : Graph → List ℕ → List ℕ → List ℕ → List ℤ → List ℕ → ℕ
-solveRefusal g mu nu parents potentials entries = refusal (solveChecks g mu nu (answersOk (g .n) (length parents) (length potentials) (length entries)))
+solveRefusal g mu nu parents potentials entries = refusal (problemChecks g mu nu (answersOk (g .n) (length parents) (length potentials) (length entries)))
 
 -- "its plan by the rule above": that of a tree with root 0 and the parents p
 abbrev pub bestPlan : Graph → List ℕ → List ℕ → (ℕ → ℕ) → ℕ → ℕ → ℕ

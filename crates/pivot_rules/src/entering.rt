@@ -3,9 +3,9 @@ ghost use mathlib.Core.Path.{_≡_};
 ghost use mathlib.Core.List.{List};
 ghost use Prim.Native.Nat.{ℕ, _+_, _-_, _*_, _^_, _≤_, _<_, min};
 ghost use lib.ListN.{length};
-ghost use Rattle.arithmetic.specs.Product.{gap};
-ghost use Rattle.tree_walks.specs.Walk.{Filled};
-ghost use Rattle.pivot_rules.specs.Entering.{heightOf, reachOf, raised, Reaches, CanReach, CanRise, CanScan, Tallest, CanEnter, Entering};
+ghost use Rattle.arithmetic.specs.Steps.Product.{gap};
+ghost use Rattle.arithmetic.specs.Steps.Fill.{Filled};
+ghost use Rattle.pivot_rules.specs.Steps.Entering.{heightOf, reachOf, raised, Reaches, CanReach, CanRise, CanScan, Tallest, CanEnter, Entering};
 
 // A potential of 1, in the fine measure of heights.
 const UNIT: u64 = 1 << 36;

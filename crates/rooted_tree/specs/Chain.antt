@@ -1,5 +1,5 @@
 -- Chains of parents. A tree is given by a function p, the parent of each vertex, and its root r.
-use mathlib.Core.Bool.{Bool, true, false, cond, _||_}
+use mathlib.Core.Bool.{Bool, cond, _||_}
 use Prim.Native.Nat.{ℕ, zero, suc}
 use lib.Dec.{eqb}
 

@@ -1,4 +1,2 @@
 pub mod Chain
-pub mod Rooted
-pub mod Subtotal
-pub mod Flow
+pub mod Steps

@@ -1,14 +1,13 @@
 // The labels of the vertices: what the path from the start weighs, or more until it is found. An edge weighs 128 times its length and 1: as a path of a tree has at
 // most 63 edges, the lightest path is a shortest one, with the fewest edges of those; and every weight is positive, whatever the length.
 ghost use mathlib.Core.Path.{_≡_};
-ghost use Prim.Native.Nat.{_+_, _≤_, _<_};
+ghost use Prim.Native.Nat.{_≤_, _<_};
 ghost use lib.ListN.{length};
+ghost use lib.Dec.{ltb};
 ghost use Rattle.arithmetic.specs.Bools.{all};
 ghost use Rattle.arithmetic.specs.Table.{at};
-ghost use lib.Dec.{eqb, ltb};
-ghost use mathlib.Core.Bool.{cond};
-ghost use Rattle.shortest_paths.specs.Weight.{weightOf, unreached};
-ghost use Rattle.shortest_paths.specs.Labels.{SomeLabelled, Cleared, CanHang, Relaxed, Lowers};
+ghost use Rattle.shortest_paths.specs.Steps.Weight.{weightOf, unreached};
+ghost use Rattle.shortest_paths.specs.Steps.Labels.{SomeLabelled, Cleared, CanRelax, Relaxed, SweepsUp, SweepsDown, FeasibleUp, Rounds};
 
 // The label of a vertex that is not reached: more than any path of a tree weighs.
 const UNREACHED: u32 = 1 << 30;
@@ -46,21 +45,23 @@ pub fn all_reached(n: usize, labels: &[u32]) -> bool
     true
 }
 
-// Hangs y on x along edge e, if that lowers its label; says whether it did.
+// Hangs the end of edge e in `to` on that in `from`, if that lowers its label; says whether it did.
 fn relax(
-    x: usize,
-    y: usize,
+    from: &[u32],
+    to: &[u32],
+    lengths: &[u32],
     e: usize,
-    weight: u32,
     parents: &mut [u32],
     edge: &mut [u32],
     labels: &mut [u32],
 ) -> bool
-    requires { ⌜ CanHang x y e weight (now parents) (now edge) (now labels) ⌝ }
-    ensures { λ r. ⌜ Relaxed x y e weight (now (parents .entry)) (now (edge .entry)) (now (labels .entry))
-        r (now (parents .exit)) (now (edge .exit)) (now (labels .exit)) ⌝ }
+    requires { ⌜ CanRelax (now from) (now to) (now lengths) e (now parents) (now edge) (now labels) ⌝ }
+    ensures { λ r. ⌜ Relaxed (at (now (from .entry)) e) (at (now (to .entry)) e) e (weightOf (at (now (lengths .entry)) e))
+        (now (parents .entry)) (now (edge .entry)) (now (labels .entry)) r (now (parents .exit)) (now (edge .exit)) (now (labels .exit)) ⌝ }
 {
-    let near = labels[x] + weight;
+    let x = from[e] as usize;
+    let y = to[e] as usize;
+    let near = labels[x] + weight(lengths[e]);
     if labels[y] <= near {
         return false;
     }
@@ -70,41 +71,69 @@ fn relax(
     true
 }
 
-// Edge e, either way; says whether a label was lowered.
-pub fn relax_edge(
+// Every edge, by rising number, from its lower end to its upper one; says whether a label was lowered. The label that an edge lowers is that of its upper end, from
+// which no edge before it goes up: so at the end no edge can lower a label upward.
+pub fn sweep_up(
     a: &[u32],
     b: &[u32],
     lengths: &[u32],
-    e: usize,
     parents: &mut [u32],
     edge: &mut [u32],
     labels: &mut [u32],
 ) -> bool
-    requires { ⌜ SomeLabelled (now a) (now b) (now lengths) (now parents) (now edge) (now labels) × (e < length (now a)) ⌝ }
-    ensures { λ r. ⌜ Lowers (now (a .entry)) (now (b .entry)) (now (lengths .entry)) e
+    requires { ⌜ SomeLabelled (now a) (now b) (now lengths) (now parents) (now edge) (now labels) ⌝ }
+    ensures { λ r. ⌜ SweepsUp (now (a .entry)) (now (b .entry)) (now (lengths .entry)) (length (now (a .entry)))
         (now (parents .entry)) (now (edge .entry)) (now (labels .entry)) r (now (parents .exit)) (now (edge .exit)) (now (labels .exit)) ⌝ }
 {
-    let x = a[e] as usize;
-    let y = b[e] as usize;
-    let w = weight(lengths[e]);
-    if relax(x, y, e, w, parents, edge, labels) {
-        return true;
+    let mut lowered = false;
+    for e in 0..a.len() {
+        if relax(a, b, lengths, e, parents, edge, labels) {
+            lowered = true;
+        }
     }
-    relax(y, x, e, w, parents, edge, labels)
+    lowered
 }
 
-// One edge more that lowered no label, or none.
-pub fn longer(quiet: usize, lowered: bool) -> usize
-    requires { ⌜ quiet < 512 ⌝ }
-    ensures { λ r. ⌜ r ≡ cond lowered 0 (quiet + 1) ⌝ }
+// The same downward: every edge, by falling number, from its upper end to its lower one.
+fn sweep_down(
+    a: &[u32],
+    b: &[u32],
+    lengths: &[u32],
+    parents: &mut [u32],
+    edge: &mut [u32],
+    labels: &mut [u32],
+) -> bool
+    requires { ⌜ SomeLabelled (now a) (now b) (now lengths) (now parents) (now edge) (now labels) ⌝ }
+    ensures { λ r. ⌜ SweepsDown (now (a .entry)) (now (b .entry)) (now (lengths .entry)) 0
+        (now (parents .entry)) (now (edge .entry)) (now (labels .entry)) r (now (parents .exit)) (now (edge .exit)) (now (labels .exit)) ⌝ }
 {
-    if lowered { 0 } else { quiet + 1 }
+    let mut lowered = false;
+    let mut e = a.len();
+    while e > 0 {
+        e -= 1;
+        if relax(b, a, lengths, e, parents, edge, labels) {
+            lowered = true;
+        }
+    }
+    lowered
 }
 
-// The edge after e, of m, round and round.
-pub fn next(e: usize, m: usize) -> usize
-    requires { ⌜ e < 512 ⌝ }
-    ensures { λ r. ⌜ r ≡ cond (eqb (e + 1) m) 0 (e + 1) ⌝ }
+// A sweep down and, if that lowered a label, one up; says whether each of them did.
+pub fn round(
+    a: &[u32],
+    b: &[u32],
+    lengths: &[u32],
+    parents: &mut [u32],
+    edge: &mut [u32],
+    labels: &mut [u32],
+) -> bool
+    requires { ⌜ SomeLabelled (now a) (now b) (now lengths) (now parents) (now edge) (now labels)
+        × FeasibleUp (now a) (now b) (now lengths) (now labels) ⌝ }
+    ensures { λ r. ⌜ Rounds (now (a .entry)) (now (b .entry)) (now (lengths .entry))
+        (now (parents .entry)) (now (edge .entry)) (now (labels .entry)) r (now (parents .exit)) (now (edge .exit)) (now (labels .exit)) ⌝ }
 {
-    if e + 1 == m { 0 } else { e + 1 }
+    if !sweep_down(a, b, lengths, parents, edge, labels) {
+        return false;
+    }
+    sweep_up(a, b, lengths, parents, edge, labels)
 }

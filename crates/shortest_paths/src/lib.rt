@@ -1,13 +1,14 @@
-// Shortest paths from a vertex: Bellman and Ford's method. One search from vertex 0 gives check 5, the distances from it and the tree that the search for a best
-// tree starts from.
+// Shortest paths from a vertex: Bellman and Ford's method, with Yen's sweeps up and down in turn. One search from vertex 0 gives check 5, the distances from it and
+// the tree that the search for a best tree starts from.
+ghost use Prim.Native.Nat.{_≤_};
+ghost use lib.ListN.{length};
 ghost use Rattle.graph.specs.Graph.{graph};
 ghost use Rattle.graph.specs.Checks.{edgeChecks, graphChecks};
-ghost use Rattle.graph.specs.Accepted.{Sized};
-ghost use Rattle.shortest_paths.specs.ShortestPathTree.{Wide, CanSearch, Searched};
-ghost use Rattle.shortest_paths.specs.Checked.{Checked};
+ghost use Rattle.graph.specs.Steps.Accepted.{Sized};
+ghost use Rattle.shortest_paths.specs.Steps.ShortestPathTree.{CanSearch, Searched};
+ghost use Rattle.shortest_paths.specs.Steps.Checked.{Checked};
 
 mod labels;
-pub mod ties;
 
 use graph::edges;
 
@@ -27,13 +28,8 @@ pub fn shortest_path_tree(
         (now (parents .exit)) (now (edge .exit)) (now (labels .exit)) ⌝ }
 {
     labels::clear(start, parents, labels);
-    let mut e = 0;
-    let mut quiet = 0; // so many edges, those before e, lower no label
-    while quiet < a.len() {
-        let lowered = labels::relax_edge(a, b, lengths, e, parents, edge, labels);
-        quiet = labels::longer(quiet, lowered);
-        e = labels::next(e, a.len());
-    }
+    labels::sweep_up(a, b, lengths, parents, edge, labels);
+    while labels::round(a, b, lengths, parents, edge, labels) {}
     labels::all_reached(n, labels)
 }
 
@@ -45,12 +41,10 @@ pub fn edges_refusal(
     lengths: &[u32],
     parents: &mut [u32],
     edge: &mut [u32],
-    labels: &mut [u32],
 ) -> u32
-    requires { ⌜ Sized (graph n (now a) (now b) (now lengths)) × Wide (now parents) (now edge) (now labels) ⌝ }
+    requires { ⌜ Sized (graph n (now a) (now b) (now lengths)) × ((64 ≤ length (now parents)) × (64 ≤ length (now edge))) ⌝ }
     ensures { λ r. ⌜ Checked (graph n (now (a .entry)) (now (b .entry)) (now (lengths .entry)))
-        (edgeChecks (graph n (now (a .entry)) (now (b .entry)) (now (lengths .entry)))) r
-        (now (parents .exit)) (now (edge .exit)) (now (labels .exit)) ⌝ }
+        (edgeChecks (graph n (now (a .entry)) (now (b .entry)) (now (lengths .entry)))) r (now (parents .exit)) (now (edge .exit)) ⌝ }
 {
     if !edges::edges_fit(n, a, b) {
         return 3;
@@ -58,7 +52,8 @@ pub fn edges_refusal(
     if !edges::lengths_fit(a.len(), lengths) {
         return 4;
     }
-    if !shortest_path_tree(n, a, b, lengths, 0, parents, edge, labels) {
+    let mut labels = [0u32; 64];
+    if !shortest_path_tree(n, a, b, lengths, 0, parents, edge, &mut labels) {
         return 5;
     }
     0
@@ -73,16 +68,14 @@ pub fn check(
     tables: bool,
     parents: &mut [u32],
     edge: &mut [u32],
-    labels: &mut [u32],
 ) -> u32
-    requires { ⌜ Wide (now parents) (now edge) (now labels) ⌝ }
+    requires { ⌜ (64 ≤ length (now parents)) × (64 ≤ length (now edge)) ⌝ }
     ensures { λ r. ⌜ Checked (graph n (now (a .entry)) (now (b .entry)) (now (lengths .entry)))
-        (graphChecks (graph n (now (a .entry)) (now (b .entry)) (now (lengths .entry))) tables) r
-        (now (parents .exit)) (now (edge .exit)) (now (labels .exit)) ⌝ }
+        (graphChecks (graph n (now (a .entry)) (now (b .entry)) (now (lengths .entry))) tables) r (now (parents .exit)) (now (edge .exit)) ⌝ }
 {
     let first = edges::sizes_refusal(n, a, b, lengths, tables);
     if first != 0 {
         return first;
     }
-    edges_refusal(n, a, b, lengths, parents, edge, labels)
+    edges_refusal(n, a, b, lengths, parents, edge)
 }

@@ -8,7 +8,8 @@ use Rattle.arithmetic.specs.Table.{at}
 use Rattle.arithmetic.specs.Refusal.{Check, refusal}
 use Rattle.graph.specs.Graph.{Graph}
 use Rattle.graph.specs.Checks.{graphChecks}
-use Rattle.tree_checks.specs.Checks.{measureChecks, treeChecks}
+use Rattle.tree_checks.specs.Checks.{treeChecks}
+use Rattle.measures.specs.Checks.{measureChecks}
 
 -- what is lent: a painting before, one after, and a tree's root and parents
 pub record Given : Type 0 where

@@ -1,4 +1,4 @@
 pub mod Tree
 pub mod TreeValue
 pub mod Given
-pub mod GivenLaws
+pub mod Steps

@@ -1,32 +1,10 @@
 -- What a tree by value holds.
-use Prim.Native.Nat.{ℕ, _≤_, _<_}
-use mathlib.Core.Path.{_≡_, sym, ap, _∙_, fun-ext}
+use Prim.Native.Nat.{ℕ}
 use mathlib.Core.List.{List}
-use native.Mathlib.Omega.{arith}
 use lib.Dec.{ltb}
-use lib.ListN.{length, List·getD-eq-default}
-use borrow.Author.Tests.{lt-ltb}
-use Rattle.arithmetic.specs.Bools.{case<}
-use Rattle.arithmetic.specs.Sum.{pick, pick-zero}
-use Rattle.arithmetic.specs.Table.{at, tab, tab-at, length-tab}
+use Rattle.arithmetic.specs.Sum.{pick}
+use Rattle.arithmetic.specs.Table.{at, tab}
 
 -- "sixty-four parents; places from n on hold 0"
 abbrev pub parentsHeld : ℕ → List ℕ → List ℕ
 parentsHeld n parents = tab 64 (λ x. pick (ltb x n) (at parents x))
-
--- ---- laws
-
-module _ (n : ℕ) (parents : List ℕ) (few : n ≤ 64) where
-  -- the tree has the parents of the list
-  pub held-at : (x : ℕ) → x < n → at (parentsHeld n parents) x ≡ at parents x
-  held-at x l = tab-at 64 _ 0 x (omega arith) ∙ rw (lt-ltb x n l)
-
-  -- and nothing else, if the list has nothing else
-  pub held-same : length parents ≡ n → at (parentsHeld n parents) ≡ at parents
-  held-same long =
-      fun-ext (λ x.
-      case< x n (held-at x) (λ h.
-      let none : at parents x ≡ 0 = List·getD-eq-default parents 0 (omega arith) in
-      case< x 64
-      (λ l. tab-at 64 _ 0 x l ∙ ap (pick (ltb x n)) none ∙ pick-zero (ltb x n) ∙ sym none)
-      (λ l. List·getD-eq-default (parentsHeld n parents) 0 (omega (arith, length-tab 64 (λ x. pick (ltb x n) (at parents x)))) ∙ sym none)))

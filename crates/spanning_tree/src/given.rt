@@ -3,9 +3,8 @@ ghost use mathlib.Core.Path.{_≡_};
 ghost use Prim.Native.Nat.{_≤_};
 ghost use lib.ListN.{length};
 ghost use Rattle.graph.specs.Graph.{graph};
-ghost use Rattle.shortest_paths.specs.ShortestPathTree.{Wide};
 ghost use Rattle.spanning_tree.specs.Given.{given, tablesOk, answersOk};
-ghost use Rattle.spanning_tree.specs.GivenLaws.{GivenChecked};
+ghost use Rattle.spanning_tree.specs.Steps.Given.{GivenChecked};
 use graph::edges;
 use tree_checks::checks;
 
@@ -26,7 +25,7 @@ fn tables_fit(n: usize, mu: &[u64], nu: &[u64], parents: &[u32], answers: bool) 
 }
 
 // checks 1 to 10; `answers` says whether the caller's answer tables pass check 2. Where nothing is refused, `above` has the length of
-// the edge from each vertex to its parent, and `first`, `edge` and `labels` hold the tree of shortest paths from vertex 0.
+// the edge from each vertex to its parent, and `first` and `edge` hold a first spanning tree with root 0.
 pub fn given_refusal(
     n: usize,
     a: &[u32],
@@ -40,19 +39,18 @@ pub fn given_refusal(
     above: &mut [u32],
     first: &mut [u32],
     edge: &mut [u32],
-    labels: &mut [u32],
 ) -> u32
-    requires { ⌜ (64 ≤ length (now above)) × Wide (now first) (now edge) (now labels) ⌝ }
+    requires { ⌜ (64 ≤ length (now above)) × ((64 ≤ length (now first)) × (64 ≤ length (now edge))) ⌝ }
     ensures { λ k. ⌜ GivenChecked (graph n (now (a .entry)) (now (b .entry)) (now (lengths .entry)))
         (given (now (mu .entry)) (now (nu .entry)) root (now (parents .entry))) answers k (now (above .entry)) (now (above .exit))
-        (now (first .exit)) (now (edge .exit)) (now (labels .exit)) ⌝ }
+        (now (first .exit)) (now (edge .exit)) ⌝ }
 {
     let tables = tables_fit(n, mu, nu, parents, answers);
-    let k = shortest_paths::check(n, a, b, lengths, tables, first, edge, labels);
+    let k = shortest_paths::check(n, a, b, lengths, tables, first, edge);
     if k != 0 {
         return k;
     }
-    let k = checks::measures_refusal(n, mu, nu);
+    let k = measures::measures_refusal(n, mu, nu);
     if k != 0 {
         return k;
     }

@@ -1,12 +1,13 @@
 // A tree by value: n, its root and the parents of its vertices.
 ghost use mathlib.Core.Path.{_≡_};
 ghost use Prim.Native.Nat.{min};
-ghost use Rattle.spanning_tree.specs.Tree.{known, depthOf, parentOf, subtreeOf};
+ghost use Rattle.spanning_tree.specs.Tree.{valid, depthOf, parentOf, subtreeOf};
 ghost use Rattle.spanning_tree.specs.TreeValue.{parentsHeld};
 use tree_checks::chains;
 use tree_checks::checks;
 use tree_walks::walk;
 
+#[repr(C)]
 pub struct Tree {
     pub n: usize,
     pub root: usize,
@@ -49,8 +50,8 @@ impl Tree {
     }
 
     // whether v is a vertex, and checks 1, 8 and 10 accept the tree
-    pub fn knows(self, v: usize) -> bool
-        ensures { λ r. ⌜ r ≡ known (self .n) (self .root) (self .parents) v ⌝ }
+    pub fn is_valid(self, v: usize) -> bool
+        ensures { λ r. ⌜ r ≡ valid (self .n) (self .root) (self .parents) v ⌝ }
     {
         let n = self.n;
         let root = self.root;
@@ -71,7 +72,7 @@ impl Tree {
     pub fn depth(self, v: usize) -> u32
         ensures { λ d. ⌜ d ≡ depthOf (self .n) (self .root) (self .parents) v ⌝ }
     {
-        if !self.knows(v) {
+        if !self.is_valid(v) {
             return 0;
         }
         let parents = self.parents;
@@ -82,7 +83,7 @@ impl Tree {
     pub fn parent(self, v: usize) -> u32
         ensures { λ p. ⌜ p ≡ parentOf (self .n) (self .root) (self .parents) v ⌝ }
     {
-        if !self.knows(v) {
+        if !self.is_valid(v) {
             return 64;
         }
         self.parents[v]
@@ -92,7 +93,7 @@ impl Tree {
     pub fn subtree(self, v: usize) -> u64
         ensures { λ m. ⌜ m ≡ subtreeOf (self .n) (self .root) (self .parents) v ⌝ }
     {
-        if !self.knows(v) {
+        if !self.is_valid(v) {
             return 0;
         }
         let parents = self.parents;

@@ -1,5 +1,2 @@
 pub mod Checks
-pub mod Totals
-pub mod TreeTests
-pub mod Chains
-pub mod ParentEdges
+pub mod Steps

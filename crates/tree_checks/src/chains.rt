@@ -6,15 +6,15 @@ ghost use lib.ListN.{length};
 ghost use Rattle.arithmetic.specs.Table.{at};
 ghost use Rattle.rooted_tree.specs.Chain.{climb};
 ghost use Rattle.tree_checks.specs.Checks.{chainsOk};
-ghost use Rattle.tree_checks.specs.TreeTests.{Parents};
-ghost use Rattle.tree_checks.specs.Chains.{Reaches};
+ghost use Rattle.tree_checks.specs.Steps.TreeTests.{Parents};
+ghost use Rattle.rooted_tree.specs.Steps.Rooted.{ReachesRoot};
 
 // whether the chain of x reaches the root, where those of the vertices before x do
 fn reaches(n: usize, root: usize, parents: &[u32], x: usize) -> bool
     requires { ⌜ (n ≤ length (now parents)) × (x < n) ⌝ }
     requires tree { ⌜ Parents n root (at (now parents)) ⌝ }
-    requires before { ⌜ ((z : ℕ) → z < x → Reaches root (at (now parents)) z) ⌝ }
-    ensures yes { λ r. ⌜ (r ≡ true → Reaches root (at (now (parents .entry))) x) ⌝ }
+    requires before { ⌜ ((z : ℕ) → z < x → ReachesRoot root (at (now parents)) z) ⌝ }
+    ensures yes { λ r. ⌜ (r ≡ true → ReachesRoot root (at (now (parents .entry))) x) ⌝ }
     ensures no { λ r. ⌜ (r ≡ false → climb (at (now (parents .entry))) n x ≡ root → ⊥) ⌝ }
 {
     let mut y = x;

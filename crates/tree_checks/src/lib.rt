@@ -1,3 +1,3 @@
-// Checks 6 to 10, of the paintings and of a tree.
+// Checks 8 to 10, of a tree.
 pub mod chains;
 pub mod checks;

@@ -7,8 +7,8 @@ use lib.IntN.{ℤ}
 use Rattle.arithmetic.specs.Table.{at, tab, matrix, result, written}
 use Rattle.graph.specs.Graph.{Graph}
 use Rattle.spanning_tree.specs.Given.{Given, answersOk, givenRefusal}
-use Rattle.transport_plan.specs.Plan.{plan, moves}
-use Rattle.tree_evaluation.specs.Weigh.{imbalance, potential, treeCost}
+use Rattle.plan_rule.specs.Plan.{plan, moves}
+use Rattle.tree_figures.specs.Figures.{imbalance, potential, treeCost}
 
 -- "weighing and judging run to 10"
 unfoldable pub evaluateRefusal : Graph → Given → List ℤ → List ℤ → List ℕ → ℕ

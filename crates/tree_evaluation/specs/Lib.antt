@@ -1,7 +1,2 @@
-pub mod Weigh
 pub mod Evaluate
-pub mod EvaluateTree
-pub mod GivenTree
-pub mod TreeCost
-pub mod WeighLaws
-pub mod EvaluateLaws
+pub mod Steps

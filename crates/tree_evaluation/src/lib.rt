@@ -5,10 +5,8 @@ ghost use Rattle.arithmetic.specs.Table.{at};
 ghost use Rattle.graph.specs.Graph.{graph};
 ghost use Rattle.spanning_tree.specs.Given.{given};
 ghost use Rattle.tree_evaluation.specs.Evaluate.{Evaluated};
-ghost use Rattle.tree_evaluation.specs.EvaluateTree.{LengthsTo, Evaluable, TreeEvaluated};
-
-mod figures;
-
+ghost use Rattle.tree_figures.specs.Steps.Tables.{LengthsTo};
+ghost use Rattle.tree_evaluation.specs.Steps.EvaluateTree.{Evaluable, TreeEvaluated};
 use spanning_tree::given;
 use spanning_tree::tree::Tree;
 use transport_plan::tree_plan;
@@ -59,8 +57,8 @@ pub fn evaluate_tree(
         &mut supply,
         &mut demand,
     );
-    figures::write_imbalance(n, &supply, &demand, imbalance);
-    let cost = figures::tree_cost(n, root, above, &supply, &demand);
+    tree_figures::write_imbalance(n, &supply, &demand, imbalance);
+    let cost = tree_figures::tree_cost(n, root, above, &supply, &demand);
     let moves = tree_plan(tree, &depth, &masks, mu, nu, plan);
     TreeValue {
         cost: cost,
@@ -90,7 +88,6 @@ pub fn evaluate(
     let mut above = [0u32; 64];
     let mut first = [0u32; 64];
     let mut edge = [0u32; 64];
-    let mut labels = [0u32; 64];
     let room = given::has_room(n, imbalance.len(), potential.len(), plan.len());
     let k = given::given_refusal(
         n,
@@ -105,7 +102,6 @@ pub fn evaluate(
         &mut above,
         &mut first,
         &mut edge,
-        &mut labels,
     );
     if k != 0 {
         return Evaluation {
@@ -116,7 +112,8 @@ pub fn evaluate(
     }
     let tree = Tree::new(n, root, parents);
     let value = evaluate_tree(tree, &above, mu, nu, imbalance, plan);
-    figures::write_potential(tree, &above, imbalance, potential);
+    let held = tree.parents;
+    tree_figures::write_potential(tree.n, tree.root, &held, &above, imbalance, potential);
     Evaluation {
         refusal: 0,
         cost: value.cost,

@@ -4,10 +4,10 @@ ghost use Prim.Native.Nat.{ℕ, _-_, _≤_, _<_};
 ghost use lib.ListN.{length, set};
 ghost use Rattle.arithmetic.specs.Table.{at};
 ghost use Rattle.graph.specs.Graph.{Graph};
-ghost use Rattle.tree_pivot.specs.PathReversal.{CanPivot, Pivoted};
-ghost use Rattle.tree_pivot.specs.PivotPotential.{excess};
-ghost use Rattle.tree_pivot.specs.PivotBasis.{CanReversePath, PathReversed, CanExceed, CanPivotBasis, PivotInput, CheaperBasis};
-ghost use Rattle.tree_pivot.specs.PivotTables.{shifted, Room, CanShiftPath, PathShifted, CanComplementPath, PathComplemented, CanAdvancePath, PathAdvanced, CanMoveTotals, TotalsMoved, CanShiftPotential, PotentialShifted};
+ghost use Rattle.tree_pivot.specs.Steps.PathReversal.{CanPivot, Pivoted};
+ghost use Rattle.tree_pivot.specs.Steps.PivotPotential.{excess};
+ghost use Rattle.tree_pivot.specs.Steps.PivotBasis.{CanReversePath, PathReversed, CanExceed, CanPivotBasis, PivotInput, CheaperBasis};
+ghost use Rattle.tree_pivot.specs.Steps.PivotTables.{shifted, Room, CanShiftPath, PathShifted, CanComplementPath, PathComplemented, CanAdvancePath, PathAdvanced, CanMoveTotals, TotalsMoved, CanShiftPotential, PotentialShifted};
 
 fn shifted(rises: bool, d: u64, u: u64) -> u64
     requires { ⌜ Room 64 rises d u ⌝ }

@@ -1,15 +1,15 @@
-// Everything that one walk up from each vertex gathers: depths, masks of the subtrees, and two masses of each; and differences of such masses.
+// Everything that one walk up from each vertex gathers: depths, masks of the subtrees, and two masses of each.
 ghost use mathlib.Core.Path.{_≡_};
 ghost use Prim.Native.Nat.{_+_, _^_, _≤_, _<_};
-ghost use lib.IntN.{subℕ};
 ghost use lib.ListN.{length, set};
 ghost use Rattle.arithmetic.specs.Sum.{sum};
 ghost use Rattle.arithmetic.specs.Table.{at};
 ghost use Rattle.arithmetic.specs.Mask.{mask};
 ghost use Rattle.rooted_tree.specs.Chain.{below, depth};
-ghost use Rattle.rooted_tree.specs.Rooted.{Rooted};
-ghost use Rattle.rooted_tree.specs.Subtotal.{subtotal};
-ghost use Rattle.tree_walks.specs.Walk.{Filled, WalkedUp, AddedUp, Places, RoomFor};
+ghost use Rattle.rooted_tree.specs.Steps.Rooted.{Rooted};
+ghost use Rattle.rooted_tree.specs.Steps.Subtotal.{subtotal};
+ghost use Rattle.arithmetic.specs.Steps.Fill.{Filled};
+ghost use Rattle.tree_walks.specs.Steps.Walk.{withBit, WalkedUp, SubtreeRoom, RoomFor};
 use crate::walk;
 
 // adds d to the sum of x
@@ -34,26 +34,25 @@ fn walk_ancestors(
 ) -> u32
     requires { ⌜ (n ≤ 64) × ((n ≤ length (now parents)) × (y < n)) ⌝ }
     requires tree { ⌜ Rooted n root (at (now parents)) ⌝ }
-    requires places { ⌜ Places n (now masks) (now supply) (now demand) ⌝ }
+    requires places { ⌜ SubtreeRoom n (now masks) (now supply) (now demand) ⌝ }
     requires room { ⌜ RoomFor n d (now supply) × RoomFor n e (now demand) ⌝ }
     ensures count { λ r. ⌜ r ≡ depth (at (now (parents .entry))) root n y ⌝ }
-    ensures bits { λ r. ⌜ WalkedUp n (at (now (parents .entry))) y (now (masks .entry)) (now (masks .exit)) ⌝ }
-    ensures first { λ r. ⌜ AddedUp n (at (now (parents .entry))) y d (now (supply .entry)) (now (supply .exit)) ⌝ }
-    ensures second { λ r. ⌜ AddedUp n (at (now (parents .entry))) y e (now (demand .entry)) (now (demand .exit)) ⌝ }
+    ensures bits { λ r. ⌜ WalkedUp n (at (now (parents .entry))) y (withBit y) (now (masks .entry)) (now (masks .exit)) ⌝ }
+    ensures first { λ r. ⌜ WalkedUp n (at (now (parents .entry))) y (λ v. v + d) (now (supply .entry)) (now (supply .exit)) ⌝ }
+    ensures second { λ r. ⌜ WalkedUp n (at (now (parents .entry))) y (λ v. v + e) (now (demand .entry)) (now (demand .exit)) ⌝ }
 {
     let mut x = y;
     let mut count: u32 = 0;
-    while x != root {
+    loop {
         walk::mark(x, y, masks);
         add(x, d, supply);
         add(x, e, demand);
+        if x == root {
+            return count;
+        }
         x = parents[x] as usize;
         count += 1;
     }
-    walk::mark(root, y, masks);
-    add(root, d, supply);
-    add(root, e, demand);
-    count
 }
 
 // the depth of each vertex, the mask of its subtree and two masses of it, by one walk up from each vertex
@@ -70,7 +69,7 @@ pub fn subtree_tables(
 )
     requires { ⌜ (n ≤ 64) × ((n ≤ length (now parents)) × (n ≤ length (now depths))) ⌝ }
     requires tree { ⌜ Rooted n root (at (now parents)) ⌝ }
-    requires places { ⌜ Places n (now masks) (now supply) (now demand) ⌝ }
+    requires places { ⌜ SubtreeRoom n (now masks) (now supply) (now demand) ⌝ }
     requires masses { ⌜ (n ≤ length (now mu)) × ((n ≤ length (now nu)) × ((sum n (at (now mu)) < 2 ^ 64) × (sum n (at (now nu)) < 2 ^ 64))) ⌝ }
     ensures { λ _. ⌜ Filled n (depth (at (now (parents .entry))) root n) (now (depths .entry)) (now (depths .exit)) ⌝ }
     ensures bits { λ _. ⌜ Filled n (λ x. mask n (λ y. below (at (now (parents .entry))) n y x)) (now (masks .entry)) (now (masks .exit)) ⌝ }
@@ -85,12 +84,4 @@ pub fn subtree_tables(
         depths[y] = walk_ancestors(n, root, parents, y, mu[y], nu[y], masks, supply, demand);
         y += 1;
     }
-}
-
-// a − b
-pub fn difference(a: u64, b: u64) -> i32
-    requires { ⌜ (a < 2 ^ 31) × (b < 2 ^ 31) ⌝ }
-    ensures { λ r. ⌜ r ≡ subℕ a b ⌝ }
-{
-    a as i32 - b as i32
 }

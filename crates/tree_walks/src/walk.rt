@@ -6,8 +6,9 @@ ghost use lib.ListN.{length, set};
 ghost use Rattle.arithmetic.specs.Table.{at};
 ghost use Rattle.arithmetic.specs.Mask.{mask};
 ghost use Rattle.rooted_tree.specs.Chain.{below, depth};
-ghost use Rattle.rooted_tree.specs.Rooted.{Rooted};
-ghost use Rattle.tree_walks.specs.Walk.{Filled, WalkedUp};
+ghost use Rattle.rooted_tree.specs.Steps.Rooted.{Rooted};
+ghost use Rattle.arithmetic.specs.Steps.Fill.{Filled};
+ghost use Rattle.tree_walks.specs.Steps.Walk.{withBit, WalkedUp};
 
 // the depth of x
 pub fn depth_of(n: usize, root: usize, parents: &[u32], x: usize) -> u32
@@ -24,19 +25,6 @@ pub fn depth_of(n: usize, root: usize, parents: &[u32], x: usize) -> u32
     d
 }
 
-// the depth of each vertex
-pub fn depths(n: usize, root: usize, parents: &[u32], out: &mut [u32])
-    requires { ⌜ (n ≤ 64) × ((n ≤ length (now parents)) × (n ≤ length (now out))) ⌝ }
-    requires tree { ⌜ Rooted n root (at (now parents)) ⌝ }
-    ensures { λ _. ⌜ Filled n (depth (at (now (parents .entry))) root n) (now (out .entry)) (now (out .exit)) ⌝ }
-{
-    let mut x: usize = 0;
-    while x < n {
-        out[x] = depth_of(n, root, parents, x);
-        x += 1;
-    }
-}
-
 // sets y's bit in the mask of x
 pub fn mark(x: usize, y: usize, masks: &mut [u64])
     requires { ⌜ (x < length (now masks)) × (y < 64) ⌝ }
@@ -49,14 +37,16 @@ pub fn mark(x: usize, y: usize, masks: &mut [u64])
 pub fn walk_up(n: usize, root: usize, parents: &[u32], y: usize, masks: &mut [u64])
     requires { ⌜ (n ≤ 64) × ((n ≤ length (now parents)) × ((n ≤ length (now masks)) × (y < n))) ⌝ }
     requires tree { ⌜ Rooted n root (at (now parents)) ⌝ }
-    ensures { λ _. ⌜ WalkedUp n (at (now (parents .entry))) y (now (masks .entry)) (now (masks .exit)) ⌝ }
+    ensures { λ _. ⌜ WalkedUp n (at (now (parents .entry))) y (withBit y) (now (masks .entry)) (now (masks .exit)) ⌝ }
 {
     let mut x = y;
-    while x != root {
+    loop {
         mark(x, y, masks);
+        if x == root {
+            return;
+        }
         x = parents[x] as usize;
     }
-    mark(root, y, masks);
 }
 
 // zeros in the first n places

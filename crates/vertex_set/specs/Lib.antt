@@ -1,4 +1,1 @@
 pub mod Lowest
-pub mod LowestLaws
-pub mod Words
-pub mod Without

@@ -1,7 +1,8 @@
 // Sets of vertices, as words: bit x stands for vertex x.
 ghost use mathlib.Core.Path.{_≡_};
 ghost use Prim.Native.Nat.{_≤_, _<_};
-ghost use Rattle.arithmetic.specs.Mask.{bit, mask};
+ghost use Rattle.arithmetic.specs.Steps.Mask.{bit};
+ghost use Rattle.arithmetic.specs.Mask.{mask};
 ghost use Rattle.vertex_set.specs.Lowest.{lowest};
 
 // The lowest vertex of a word that has one.

@@ -1,15 +1,13 @@
 // The exported entry, which answers an image by its record.
-pub mod answer; // read, and weighed or solved
-
 ghost use mathlib.Core.Path.{_≡_};
 ghost use mathlib.Core.Bool.{true};
 ghost use Prim.Native.Nat.{_≤_};
 ghost use lib.ListN.{length};
 ghost use Rattle.image.specs.Image.{vertexCount};
+ghost use Rattle.image_answer.specs.Steps.Answered.{Spacious};
 ghost use Rattle.weight_mover.specs.Run.{Ran};
-ghost use Rattle.weight_mover.specs.Answer.{Spacious};
-use answer::answer_image;
 use host_record::write_record;
+use image_answer::answer_image;
 
 // Whether an image has so few vertices that a small table has room for the plan.
 fn is_small(image: &[u8]) -> bool

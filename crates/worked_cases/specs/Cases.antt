@@ -6,7 +6,7 @@ use Rattle.spanning_tree.specs.Given.{given}
 use Rattle.worked_cases.specs.Figures.{Case, Certificate, Bytes, silent, said}
 
 -- A: a line; the plan is that of the listing
-abbrev a : Case
+abbrev pub a : Case
 a = record {
   patch = graph 4 (0 ∷ 1 ∷ 2 ∷ []) (1 ∷ 2 ∷ 3 ∷ []) (2 ∷ 3 ∷ 1 ∷ []);
   lent = given (5 ∷ 0 ∷ 1 ∷ 0 ∷ []) (0 ∷ 2 ∷ 1 ∷ 3 ∷ []) 3 (1 ∷ 2 ∷ 3 ∷ 3 ∷ []);
@@ -21,11 +21,11 @@ a = record {
 }
 
 -- B's best answer
-abbrev certificate-b : Certificate
+abbrev pub certificate-b : Certificate
 certificate-b = record { parents = (0 ∷ 0 ∷ 1 ∷ 0 ∷ []); potentials = (pos 0 ∷ pos 0 ∷ pos 0 ∷ negsuc 0 ∷ []); cost = 4 }
 
 -- B: a ring; the tree given is not the best
-abbrev b : Case
+abbrev pub b : Case
 b = record {
   patch = graph 4 (0 ∷ 0 ∷ 1 ∷ 2 ∷ []) (1 ∷ 3 ∷ 2 ∷ 3 ∷ []) (1 ∷ 1 ∷ 1 ∷ 1 ∷ []);
   lent = given (4 ∷ 0 ∷ 0 ∷ 0 ∷ []) (0 ∷ 0 ∷ 0 ∷ 4 ∷ []) 0 (0 ∷ 0 ∷ 1 ∷ 2 ∷ []);
@@ -40,7 +40,7 @@ b = record {
 }
 
 -- C: B's ring and tree, with equal paintings: the tree's own potential jumps by 3 over an edge of length 1, and the tree is best
-abbrev c : Case
+abbrev pub c : Case
 c = record {
   patch = graph 4 (0 ∷ 0 ∷ 1 ∷ 2 ∷ []) (1 ∷ 3 ∷ 2 ∷ 3 ∷ []) (1 ∷ 1 ∷ 1 ∷ 1 ∷ []);
   lent = given (1 ∷ 1 ∷ 1 ∷ 1 ∷ []) (1 ∷ 1 ∷ 1 ∷ 1 ∷ []) 0 (0 ∷ 0 ∷ 1 ∷ 2 ∷ []);
@@ -55,7 +55,7 @@ c = record {
 }
 
 -- D: an edge that is longer than the way round
-abbrev d : Case
+abbrev pub d : Case
 d = record {
   patch = graph 3 (0 ∷ 0 ∷ 1 ∷ []) (1 ∷ 2 ∷ 2 ∷ []) (5 ∷ 1 ∷ 1 ∷ []);
   lent = given (3 ∷ 0 ∷ 0 ∷ []) (0 ∷ 3 ∷ 0 ∷ []) 0 (0 ∷ 2 ∷ 0 ∷ []);
@@ -70,7 +70,7 @@ d = record {
 }
 
 -- E: one vertex
-abbrev e : Case
+abbrev pub e : Case
 e = record {
   patch = graph 1 [] [] [];
   lent = given (7 ∷ []) (7 ∷ []) 0 (0 ∷ []);
@@ -85,7 +85,7 @@ e = record {
 }
 
 -- F: the longest edge and the largest total
-abbrev f : Case
+abbrev pub f : Case
 f = record {
   patch = graph 2 (0 ∷ []) (1 ∷ []) (65535 ∷ []);
   lent = given (16777216 ∷ 0 ∷ []) (0 ∷ 16777216 ∷ []) 0 (0 ∷ 0 ∷ []);
@@ -100,7 +100,7 @@ f = record {
 }
 
 -- F: one grain more
-abbrev f′ : Case
+abbrev pub f′ : Case
 f′ = record {
   patch = graph 2 (0 ∷ []) (1 ∷ []) (65535 ∷ []);
   lent = given (16777217 ∷ 0 ∷ []) (0 ∷ 16777217 ∷ []) 0 (0 ∷ 0 ∷ []);
@@ -115,7 +115,7 @@ f′ = record {
 }
 
 -- G: document 000, Table 1, in units of 0.05
-abbrev g : Case
+abbrev pub g : Case
 g = record {
   patch = graph 6 (0 ∷ 1 ∷ 2 ∷ 3 ∷ 4 ∷ []) (1 ∷ 2 ∷ 3 ∷ 4 ∷ 5 ∷ []) (1 ∷ 1 ∷ 1 ∷ 1 ∷ 1 ∷ []);
   lent = given (1 ∷ 1 ∷ 0 ∷ 0 ∷ 0 ∷ 6 ∷ []) (0 ∷ 0 ∷ 4 ∷ 2 ∷ 2 ∷ 0 ∷ []) 5 (1 ∷ 2 ∷ 3 ∷ 4 ∷ 5 ∷ 5 ∷ []);
@@ -130,7 +130,7 @@ g = record {
 }
 
 -- H: G's paintings under root 0
-abbrev h : Case
+abbrev pub h : Case
 h = record {
   patch = graph 6 (0 ∷ 1 ∷ 2 ∷ 3 ∷ 4 ∷ []) (1 ∷ 2 ∷ 3 ∷ 4 ∷ 5 ∷ []) (1 ∷ 1 ∷ 1 ∷ 1 ∷ 1 ∷ []);
   lent = given (1 ∷ 1 ∷ 0 ∷ 0 ∷ 0 ∷ 6 ∷ []) (0 ∷ 0 ∷ 4 ∷ 2 ∷ 2 ∷ 0 ∷ []) 0 (0 ∷ 0 ∷ 1 ∷ 2 ∷ 3 ∷ 4 ∷ []);
@@ -145,7 +145,7 @@ h = record {
 }
 
 -- 1: n = 0
-abbrev n-0 : Case
+abbrev pub n-0 : Case
 n-0 = record {
   patch = graph 0 [] [] [];
   lent = given [] [] 0 [];
@@ -160,7 +160,7 @@ n-0 = record {
 }
 
 -- 2: n = 2, mu of 3 numbers
-abbrev mu-3 : Case
+abbrev pub mu-3 : Case
 mu-3 = record {
   patch = graph 2 (0 ∷ []) (1 ∷ []) (1 ∷ []);
   lent = given (1 ∷ 1 ∷ 1 ∷ []) (1 ∷ 1 ∷ []) 0 (0 ∷ 0 ∷ []);
@@ -175,7 +175,7 @@ mu-3 = record {
 }
 
 -- 3: n = 2, edge (1, 0)
-abbrev edge-10 : Case
+abbrev pub edge-10 : Case
 edge-10 = record {
   patch = graph 2 (1 ∷ []) (0 ∷ []) (1 ∷ []);
   lent = given (1 ∷ 0 ∷ []) (0 ∷ 1 ∷ []) 0 (0 ∷ 0 ∷ []);
@@ -190,7 +190,7 @@ edge-10 = record {
 }
 
 -- 4: n = 2, (0, 1) length 0
-abbrev length-0 : Case
+abbrev pub length-0 : Case
 length-0 = record {
   patch = graph 2 (0 ∷ []) (1 ∷ []) (0 ∷ []);
   lent = given (1 ∷ 0 ∷ []) (0 ∷ 1 ∷ []) 0 (0 ∷ 0 ∷ []);
@@ -205,7 +205,7 @@ length-0 = record {
 }
 
 -- 5: n = 3, only (0, 1)
-abbrev lonely : Case
+abbrev pub lonely : Case
 lonely = record {
   patch = graph 3 (0 ∷ []) (1 ∷ []) (1 ∷ []);
   lent = given (1 ∷ 0 ∷ 0 ∷ []) (0 ∷ 1 ∷ 0 ∷ []) 0 (0 ∷ 0 ∷ 0 ∷ []);
@@ -220,7 +220,7 @@ lonely = record {
 }
 
 -- 6: n = 1, 16,777,217 twice
-abbrev heavy : Case
+abbrev pub heavy : Case
 heavy = record {
   patch = graph 1 [] [] [];
   lent = given (16777217 ∷ []) (16777217 ∷ []) 0 (0 ∷ []);
@@ -235,7 +235,7 @@ heavy = record {
 }
 
 -- 7: n = 1, 3 and 4
-abbrev unequal : Case
+abbrev pub unequal : Case
 unequal = record {
   patch = graph 1 [] [] [];
   lent = given (3 ∷ []) (4 ∷ []) 0 (0 ∷ []);
@@ -250,7 +250,7 @@ unequal = record {
 }
 
 -- 8: n = 2, root 0, parents 1 0
-abbrev other-root : Case
+abbrev pub other-root : Case
 other-root = record {
   patch = graph 2 (0 ∷ []) (1 ∷ []) (1 ∷ []);
   lent = given (1 ∷ 0 ∷ []) (0 ∷ 1 ∷ []) 0 (1 ∷ 0 ∷ []);
@@ -265,7 +265,7 @@ other-root = record {
 }
 
 -- 9: (0, 1), (1, 2); root 0, parents 0 0 0
-abbrev no-edge : Case
+abbrev pub no-edge : Case
 no-edge = record {
   patch = graph 3 (0 ∷ 1 ∷ []) (1 ∷ 2 ∷ []) (1 ∷ 1 ∷ []);
   lent = given (1 ∷ 0 ∷ 0 ∷ []) (0 ∷ 1 ∷ 0 ∷ []) 0 (0 ∷ 0 ∷ 0 ∷ []);
@@ -280,7 +280,7 @@ no-edge = record {
 }
 
 -- 10: the same edges; root 0, parents 0 2 1
-abbrev no-chain : Case
+abbrev pub no-chain : Case
 no-chain = record {
   patch = graph 3 (0 ∷ 1 ∷ []) (1 ∷ 2 ∷ []) (1 ∷ 1 ∷ []);
   lent = given (1 ∷ 0 ∷ 0 ∷ []) (0 ∷ 1 ∷ 0 ∷ []) 0 (0 ∷ 2 ∷ 1 ∷ []);
@@ -295,7 +295,7 @@ no-chain = record {
 }
 
 -- A's image, and its listing "in full"; the record has A's figures in their places
-abbrev image-a : Bytes
+abbrev pub image-a : Bytes
 image-a = record {
   image = (4 ∷ 0 ∷ 3 ∷ 0 ∷ 36 ∷ 0 ∷ 0 ∷ 0 ∷ 12 ∷ 0 ∷ 0 ∷ 0 ∷ 48 ∷ 0 ∷ 0 ∷ 0 ∷ 16 ∷ 0 ∷ 0 ∷ 0 ∷ 64 ∷ 0 ∷ 0 ∷ 0 ∷ 16 ∷ 0 ∷ 0 ∷ 0 ∷ 80 ∷ 0 ∷ 0 ∷ 0 ∷ 5 ∷ 0 ∷ 0 ∷ 0 ∷ 0 ∷ 1 ∷ 2 ∷ 0 ∷ 1 ∷ 2 ∷ 3 ∷ 0 ∷ 2 ∷ 3 ∷ 1 ∷ 0 ∷ 5 ∷ 0 ∷ 0 ∷ 0 ∷ 0 ∷ 0 ∷ 0 ∷ 0 ∷ 1 ∷ 0 ∷ 0 ∷ 0 ∷ 0 ∷ 0 ∷ 0 ∷ 0 ∷ 0 ∷ 0 ∷ 0 ∷ 0 ∷ 2 ∷ 0 ∷ 0 ∷ 0 ∷ 1 ∷ 0 ∷ 0 ∷ 0 ∷ 3 ∷ 0 ∷ 0 ∷ 0 ∷ 3 ∷ 1 ∷ 2 ∷ 3 ∷ 3 ∷ []);
   refusal = 0;
@@ -315,7 +315,7 @@ image-b = record {
 }
 
 -- 11: 35 bytes
-abbrev short : Bytes
+abbrev pub short : Bytes
 short = record {
   image = (0 ∷ 0 ∷ 0 ∷ 0 ∷ 0 ∷ 0 ∷ 0 ∷ 0 ∷ 0 ∷ 0 ∷ 0 ∷ 0 ∷ 0 ∷ 0 ∷ 0 ∷ 0 ∷ 0 ∷ 0 ∷ 0 ∷ 0 ∷ 0 ∷ 0 ∷ 0 ∷ 0 ∷ 0 ∷ 0 ∷ 0 ∷ 0 ∷ 0 ∷ 0 ∷ 0 ∷ 0 ∷ 0 ∷ 0 ∷ 0 ∷ []);
   refusal = 11;
@@ -325,7 +325,7 @@ short = record {
 }
 
 -- 12: first offset 35
-abbrev early : Bytes
+abbrev pub early : Bytes
 early = record {
   image = (2 ∷ 0 ∷ 0 ∷ 0 ∷ 35 ∷ 0 ∷ 0 ∷ 0 ∷ 0 ∷ 0 ∷ 0 ∷ 0 ∷ 36 ∷ 0 ∷ 0 ∷ 0 ∷ 8 ∷ 0 ∷ 0 ∷ 0 ∷ 44 ∷ 0 ∷ 0 ∷ 0 ∷ 8 ∷ 0 ∷ 0 ∷ 0 ∷ 52 ∷ 0 ∷ 0 ∷ 0 ∷ 0 ∷ 0 ∷ 0 ∷ 0 ∷ 0 ∷ 0 ∷ 0 ∷ 0 ∷ 0 ∷ 0 ∷ 0 ∷ 0 ∷ 0 ∷ 0 ∷ 0 ∷ 0 ∷ 0 ∷ 0 ∷ 0 ∷ 0 ∷ []);
   refusal = 12;
@@ -335,7 +335,7 @@ early = record {
 }
 
 -- 13: n = 2, mu of 4 bytes
-abbrev mu-4 : Bytes
+abbrev pub mu-4 : Bytes
 mu-4 = record {
   image = (2 ∷ 0 ∷ 0 ∷ 0 ∷ 36 ∷ 0 ∷ 0 ∷ 0 ∷ 0 ∷ 0 ∷ 0 ∷ 0 ∷ 36 ∷ 0 ∷ 0 ∷ 0 ∷ 4 ∷ 0 ∷ 0 ∷ 0 ∷ 40 ∷ 0 ∷ 0 ∷ 0 ∷ 8 ∷ 0 ∷ 0 ∷ 0 ∷ 48 ∷ 0 ∷ 0 ∷ 0 ∷ 0 ∷ 0 ∷ 0 ∷ 0 ∷ 0 ∷ 0 ∷ 0 ∷ 0 ∷ 0 ∷ 0 ∷ 0 ∷ 0 ∷ 0 ∷ 0 ∷ 0 ∷ 0 ∷ []);
   refusal = 13;

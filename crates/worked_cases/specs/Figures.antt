@@ -12,17 +12,18 @@ use Rattle.arithmetic.specs.Refusal.{refusal}
 use Rattle.arithmetic.specs.Table.{at, tab, matrix}
 use Rattle.graph.specs.Graph.{Graph, edges}
 use Rattle.tree_checks.specs.Checks.{treeChecks}
-use Rattle.tree_evaluation.specs.Weigh.{difference, imbalance, potential, treeCost}
-use Rattle.transport_plan.specs.Plan.{moves}
 use Rattle.spanning_tree.specs.Given.{Given, givenRefusal}
+use Rattle.plan_rule.specs.Plan.{moves}
+use Rattle.tree_figures.specs.Figures.{difference, imbalance, potential, treeCost}
 use Rattle.tree_evaluation.specs.Evaluate.{treePlan}
 use Rattle.duality.specs.BestCost.{bestCost}
 use Rattle.optimal_transport.specs.Solve.{solveRefusal}
-use Rattle.optimal_transport.specs.Judge.{givenCost}
 use Rattle.image.specs.Image.{amount}
-use Rattle.image.specs.Read.{lists, readRefusal}
-use Rattle.weight_mover.specs.Run.{graphOf, runRefusal, answerRecord}
+use Rattle.image_reader.specs.Read.{lists, readRefusal}
+use Rattle.image_answer.specs.ImageAnswer.{graphOf}
+use Rattle.weight_mover.specs.Run.{runRefusal, answerRecord}
 use Rattle.listing.specs.Listing.{listing}
+use Rattle.optimality_test.specs.OptimalityTest.{givenCost}
 
 -- a figure that the document gives, or is silent on
 pub data Said (A : Type 0) : Type 0 where

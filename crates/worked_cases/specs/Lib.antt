@@ -1,4 +1,3 @@
 pub mod Figures
 pub mod Cases
-pub mod Theorem
 pub mod Best

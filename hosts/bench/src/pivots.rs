@@ -25,43 +25,27 @@ pub struct Ended {
     pub pivots: usize,
 }
 
-/// Both ways along each edge: its number, its ends and what it weighs.
-fn ways(problem: &Problem) -> impl Iterator<Item = (usize, [(usize, usize); 2], u64)> + '_ {
-    let edges = problem.edges.iter().enumerate();
-    edges.map(|(e, edge)| {
-        let Edge { a, b, length } = *edge;
-        (e, [(a, b), (b, a)], 128 * u64::from(length) + 1)
-    })
-}
-
-/// The tree of shortest paths from vertex 0, by rounds of relaxing the edges; then, of the parents that serve equally well, one
-/// whose surplus is most opposed.
+/// The tree of shortest paths from vertex 0, by sweeps of relaxing the edges: upward by rising number, downward by falling number, in turn.
 fn shortest_path_tree(problem: &Problem) -> (Vec<usize>, Vec<usize>) {
     let (mut parents, mut edge) = (vec![0; problem.n], vec![0; problem.n]);
     let mut labels = vec![1u64 << 30; problem.n];
     labels[0] = 0;
-    let mut changed = true;
-    while changed {
-        changed = false;
-        for (e, ends, weight) in ways(problem) {
-            for (x, y) in ends {
-                if labels[x] + weight < labels[y] {
-                    (labels[y], parents[y], edge[y]) = (labels[x] + weight, x, e);
-                    changed = true;
-                    break;
-                }
+    let mut sweep = |rising: bool| {
+        let mut lowered = false;
+        for i in 0..problem.edges.len() {
+            let e = if rising { i } else { problem.edges.len() - 1 - i };
+            let Edge { a, b, length } = problem.edges[e];
+            let (x, y) = if rising { (a, b) } else { (b, a) };
+            let near = labels[x] + 128 * u64::from(length) + 1;
+            if near < labels[y] {
+                (labels[y], parents[y], edge[y]) = (near, x, e);
+                lowered = true;
             }
         }
-    }
-    let surplus = |x: usize| problem.mu[x] as i64 - problem.nu[x] as i64;
-    let opposed = |x: usize, y: usize| if surplus(y) > 0 { -surplus(x) } else { surplus(x) };
-    for (e, ends, weight) in ways(problem) {
-        for (x, y) in ends {
-            if labels[x] + weight == labels[y] && opposed(parents[y], y) < opposed(x, y) {
-                (parents[y], edge[y]) = (x, e);
-            }
-        }
-    }
+        lowered
+    };
+    sweep(true);
+    while sweep(false) && sweep(true) {}
     (parents, edge)
 }
 

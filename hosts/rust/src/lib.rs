@@ -1,72 +1,75 @@
 //! Optimal transport on a weighted graph, by the proved library *weight mover*.
 //!
-//! A [`Patch`] is a connected graph of up to 64 vertices with a length on each edge. It carries two
-//! measures of equal total, `mu` before and `nu` after. The cheapest way to turn one into the other, along
-//! the edges, is a spanning tree with its plan; [`Patch::run`] finds it, or evaluates a tree that is given.
+//! A graph of up to 64 vertices has a length on each edge. Two measures of equal total lie on it, `mu` before
+//! and `nu` after. The cheapest way to turn one into the other, along the edges, is a spanning tree with its
+//! plan; [`Graph::solve`] finds it, and [`Graph::evaluate`] tells what a given tree costs.
 //!
 //! ```
-//! use weight_mover::Patch;
+//! use weight_mover::Graph;
 //!
 //! // A triangle whose long edge is longer than the way round.
-//! let answer = Patch::new(3)
-//!     .edge(0, 1, 5)
-//!     .edge(0, 2, 1)
-//!     .edge(1, 2, 1)
-//!     .mu(&[3, 0, 0])
-//!     .nu(&[0, 3, 0])
-//!     .run()
-//!     .expect("a sound patch");
+//! let graph = Graph::new(3).edge(0, 1, 5).edge(0, 2, 1).edge(1, 2, 1);
+//! let answer = graph.solve(&[3, 0, 0], &[0, 3, 0])?;
 //! assert_eq!(answer.cost, 6);
 //! assert_eq!(answer.amount(0, 1), 3);
+//! assert_eq!(graph.distances()?.between(0, 1), 2);
+//! # Ok::<(), weight_mover::Refusal>(())
 //! ```
 //!
-//! What the library refuses comes back as a [`Refusal`]:
+//! What the library refuses comes back as a [`Refusal`]. No number is cut to fit: the library itself is
+//! given each one and refuses those that are too large.
 //!
 //! ```
-//! use weight_mover::{Patch, Refusal};
+//! use weight_mover::{Graph, Refusal};
 //!
-//! let unequal = Patch::new(1).mu(&[3]).nu(&[4]);
-//! assert_eq!(unequal.run(), Err(Refusal::TotalsDiffer));
+//! assert_eq!(Graph::new(1).solve(&[3], &[4]), Err(Refusal::TotalsDiffer));
+//! assert_eq!(Graph::new(2).edge(0, 1, 65_537).distances(), Err(Refusal::EdgeLength));
 //! ```
 //!
-//! [`mover_run`] is the exported call itself, on an image and a lent buffer. It keeps nothing between calls
-//! and may be used from several threads at once.
+//! | exported call | here | into what is there |
+//! |---|---|---|
+//! | `mover_distances` | [`Graph::distances`] | [`Graph::distances_into`] |
+//! | `mover_distances_of_records` | [`distances_of_records`] | [`distances_of_records_into`] |
+//! | `mover_evaluate` | [`Graph::evaluate`] | [`Graph::evaluate_into`] |
+//! | `mover_is_optimal` | [`Graph::is_optimal`] | |
+//! | `mover_solve` | [`Graph::solve`] | [`Graph::solve_into`] |
+//! | `mover_read` | [`read`] | [`read_into`] |
+//! | `mover_run` | [`run`] | [`run_into`] |
+//! | `mover_tree_new` | [`Tree::new`] | |
+//! | `mover_tree_depth`, `_parent`, `_subtree` | [`Tree::depth`], [`parent`](Tree::parent), [`subtree`](Tree::subtree) | |
+//!
+//! [`calls`] has them under their own names, on slices. A [`Patch`] is a graph with its measures and perhaps
+//! a tree: what an image holds, and a [`text`]. The library keeps nothing between calls and may be used from
+//! several threads at once.
 
 #![warn(missing_docs)]
 
 mod answer;
+pub mod calls;
+mod graph;
+mod lend;
 mod patch;
 mod refusal;
 pub mod text;
+mod tree;
 
-pub use answer::Answer;
-pub use patch::Patch;
+pub use answer::{run, run_into, Answer, Evaluation};
+pub use calls::mover_run;
+pub use graph::{distances_of_records, distances_of_records_into, Distances, Edge, Graph};
+pub use patch::{read, read_into, Patch};
 pub use refusal::Refusal;
+pub use tree::Tree;
 
 /// The greatest number of vertices.
 pub const MAX_VERTICES: usize = 64;
 /// The greatest number of edges.
 pub const MAX_EDGES: usize = 512;
+/// The greatest length of an edge.
+pub const MAX_LENGTH: u32 = 65_535;
 /// The greatest total of a measure, 2 to the 24th.
 pub const MAX_TOTAL: u64 = 16_777_216;
 
 /// Bytes of the record for `n` vertices: 4n² + 5n + 13.
 pub const fn record_size(n: usize) -> usize {
     4 * n * n + 5 * n + 13
-}
-
-mod ffi {
-    extern "C" {
-        pub fn mover_run(image: *const u8, image_len: usize, record: *mut u8, record_len: usize) -> u32;
-    }
-}
-
-/// Calls the library: an image with a tree is evaluated, one without is solved.
-///
-/// Returns 0 and fills the first [`record_size`] bytes of `record`, or returns the refusal number and
-/// leaves `record` as it was. Any bytes whatever may be passed.
-pub fn mover_run(image: &[u8], record: &mut [u8]) -> u32 {
-    // SAFETY: both pointers are valid for their lengths, and `record`, borrowed mutably, overlaps nothing.
-    // The library is proved to stay within both for all contents, and keeps neither pointer.
-    unsafe { ffi::mover_run(image.as_ptr(), image.len(), record.as_mut_ptr(), record.len()) }
 }

@@ -8,7 +8,8 @@ use std::fmt;
 pub enum Refusal {
     /// 1: the number of vertices is 0 or above 64.
     VertexCount,
-    /// 2: more than 512 edges, or a record buffer that is too short.
+    /// 2: more than 512 edges, edge lists of unequal length, a measure or given parents that are not one for
+    /// each vertex, or an answer table or record buffer that is too short.
     TableSize,
     /// 3: an edge has an end that is no vertex, has its ends in falling order, or is not after its forerunner.
     EdgeOrder,
@@ -58,6 +59,18 @@ impl Refusal {
         })
     }
 
+    /// What a call that returned this number did: nothing wrong, or a refusal.
+    ///
+    /// ```
+    /// use weight_mover::Refusal;
+    ///
+    /// assert_eq!(Refusal::check(0), Ok(()));
+    /// assert_eq!(Refusal::check(7), Err(Refusal::TotalsDiffer));
+    /// ```
+    pub fn check(number: u32) -> Result<(), Refusal> {
+        Refusal::from_number(number).map_or(Ok(()), Err)
+    }
+
     /// The refusal's number.
     pub fn number(self) -> u32 {
         match self {
@@ -83,7 +96,7 @@ impl fmt::Display for Refusal {
     fn fmt(&self, f: &mut fmt::Formatter) -> fmt::Result {
         let meaning = match self {
             Refusal::VertexCount => "the number of vertices is 0 or above 64",
-            Refusal::TableSize => "more than 512 edges, or too short a buffer",
+            Refusal::TableSize => "more than 512 edges, or a table or buffer of the wrong length",
             Refusal::EdgeOrder => "an edge's ends are wrong, or an edge comes twice or out of order",
             Refusal::EdgeLength => "an edge's length is 0 or above 65,535",
             Refusal::NotConnected => "some vertex cannot be reached from vertex 0",
@@ -110,9 +123,11 @@ mod tests {
     #[test]
     fn numbers_and_refusals_agree() {
         assert_eq!(Refusal::from_number(0), None);
+        assert_eq!(Refusal::check(0), Ok(()));
         for number in (1..=30).chain([u32::MAX]) {
             let refusal = Refusal::from_number(number).expect("a refusal");
             assert_eq!(refusal.number(), number);
+            assert_eq!(Refusal::check(number), Err(refusal));
             assert_eq!(matches!(refusal, Refusal::Other(_)), number > 13);
             assert!(refusal.to_string().starts_with(&format!("refused {number}: ")));
         }

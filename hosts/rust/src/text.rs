@@ -16,10 +16,12 @@
 //! at       0  0 0.5                   # optional: where to draw vertex 0, x to the right and y down
 //! ```
 //!
+//! [`parse`] reads it, and a [`Drawing`] is written as such a text by its `Display`.
+//!
 //! Reading tests the text alone: what is written wrong is told with its line. Whether the patch is sound,
 //! connected and of equal totals say, is the library's to tell.
 
-use crate::Patch;
+use crate::{Edge, Patch};
 use std::fmt;
 
 /// What a text says: a patch, and how to draw it.
@@ -31,6 +33,40 @@ pub struct Drawing {
     pub title: String,
     /// A place for each vertex, x to the right and y down; empty if none is given.
     pub places: Vec<(f64, f64)>,
+}
+
+impl fmt::Display for Drawing {
+    /// Writes the text: what [`parse`] gave is read back from it as it was.
+    ///
+    /// A title of more than one line, or with a `#`, would not be; nor would numbers that no text can have,
+    /// or a tree or measures of the wrong length.
+    fn fmt(&self, f: &mut fmt::Formatter) -> fmt::Result {
+        let Drawing { patch, title, places } = self;
+        if !title.is_empty() {
+            writeln!(f, "title {title}")?;
+        }
+        writeln!(f, "vertices {}", patch.graph().vertices())?;
+        for Edge { a, b, length } in patch.graph().iter() {
+            writeln!(f, "edge {a} {b} {length}")?;
+        }
+        let (mu, nu) = patch.measures();
+        line(f, "mu", mu)?;
+        line(f, "nu", nu)?;
+        if let Some((root, parents)) = patch.given_tree() {
+            writeln!(f, "root {root}")?;
+            line(f, "parents", parents)?;
+        }
+        for (x, (right, down)) in places.iter().enumerate() {
+            writeln!(f, "at {x} {right} {down}")?;
+        }
+        Ok(())
+    }
+}
+
+fn line<T: fmt::Display>(f: &mut fmt::Formatter, word: &str, numbers: &[T]) -> fmt::Result {
+    write!(f, "{word}")?;
+    numbers.iter().try_for_each(|number| write!(f, " {number}"))?;
+    writeln!(f)
 }
 
 /// What is wrong with a text, and where.
@@ -61,12 +97,12 @@ struct List<T> {
 #[derive(Default)]
 struct Reader {
     title: String,
-    vertices: Option<u8>,
-    edges: Vec<(u8, u8, u16, usize)>,
-    mu: List<u32>,
-    nu: List<u32>,
-    root: Option<(u8, usize)>,
-    parents: List<u8>,
+    vertices: Option<u32>,
+    edges: Vec<(u32, u32, u32, usize)>,
+    mu: List<u64>,
+    nu: List<u64>,
+    root: Option<(u32, usize)>,
+    parents: List<u32>,
     places: List<Option<(f64, f64)>>,
 }
 
@@ -100,20 +136,19 @@ impl Reader {
                 if self.vertices.is_some() {
                     return Err("the number of vertices is given a second time".into());
                 }
-                self.vertices = Some(number(n, u8::MAX.into())? as u8);
+                self.vertices = Some(number(n, 255)?);
             }
             "edge" => {
                 let [a, b, length] = exactly(&words, "edge wants two ends and a length")?;
                 let (a, b) = (self.vertex(a)?, self.vertex(b)?);
-                let length = number(length, u16::MAX.into())? as u16;
+                let length = number(length, 65_535)?;
                 if a == b {
                     return Err(format!("the edge joins vertex {a} to itself"));
                 }
-                let same = |e: &&(u8, u8, u16, usize)| (e.0, e.1) == (a, b) || (e.0, e.1) == (b, a);
-                if let Some(first) = self.edges.iter().find(same) {
+                let same = |&&(x, y, ..): &&(u32, u32, u32, usize)| (x, y) == (a, b) || (x, y) == (b, a);
+                if let Some((.., first)) = self.edges.iter().find(same) {
                     return Err(format!(
-                        "there is an edge between {a} and {b} in line {} already",
-                        first.3
+                        "there is an edge between {a} and {b} in line {first} already"
                     ));
                 }
                 self.edges.push((a, b, length, line));
@@ -122,7 +157,7 @@ impl Reader {
                 let n = self.count()?;
                 let list = if word == "mu" { &mut self.mu } else { &mut self.nu };
                 for amount in words {
-                    list.items.push(number(amount, u32::MAX.into())? as u32);
+                    list.items.push(number(amount, u32::MAX)?.into());
                 }
                 list.at_most(n, line, word)?;
             }
@@ -144,9 +179,9 @@ impl Reader {
             "at" => {
                 let n = self.count()?;
                 let [x, right, down] = exactly(&words, "at wants a vertex and two coordinates")?;
-                let x = usize::from(self.vertex(x)?);
-                self.places.items.resize(n, None);
-                self.places.items[x] = Some((coordinate(right)?, coordinate(down)?));
+                let x = self.vertex(x)?;
+                self.places.items.resize(n as usize, None);
+                self.places.items[x as usize] = Some((coordinate(right)?, coordinate(down)?));
                 self.places.line = line;
             }
             _ => {
@@ -159,16 +194,16 @@ impl Reader {
     }
 
     /// The number of vertices, which other lines need.
-    fn count(&self) -> Result<usize, String> {
-        let n = self.vertices.ok_or("the number of vertices must come first")?;
-        Ok(n.into())
+    fn count(&self) -> Result<u32, String> {
+        let missing = "the number of vertices must come first";
+        self.vertices.ok_or_else(|| missing.into())
     }
 
-    fn vertex(&self, word: &str) -> Result<u8, String> {
+    fn vertex(&self, word: &str) -> Result<u32, String> {
         let n = self.count()?;
-        let vertex = number(word, u64::MAX)?;
-        if vertex < n as u64 {
-            Ok(vertex as u8)
+        let vertex = number(word, u32::MAX)?;
+        if vertex < n {
+            Ok(vertex)
         } else {
             Err(format!(
                 "there is no vertex {vertex}: they go from 0 to n - 1, and n is {n}"
@@ -181,7 +216,7 @@ impl Reader {
         let Some(vertices) = self.vertices else {
             return error(last, "the number of vertices is missing".into());
         };
-        let n = usize::from(vertices);
+        let n = vertices as usize;
         for (word, list) in [("mu", &self.mu), ("nu", &self.nu)] {
             if list.items.len() < n {
                 let line = if list.line == 0 { last } else { list.line };
@@ -190,10 +225,7 @@ impl Reader {
             }
         }
         let edges = self.edges.iter().map(|&(a, b, length, _)| (a, b, length));
-        let mut patch = Patch::new(vertices)
-            .edges(edges)
-            .mu(&self.mu.items)
-            .nu(&self.nu.items);
+        let mut patch = Patch::new(n).edges(edges).mu(&self.mu.items).nu(&self.nu.items);
         match (self.root, self.parents.line) {
             (None, 0) => {}
             (None, line) => return error(line, "there are parents, but no root".into()),
@@ -203,7 +235,7 @@ impl Reader {
                     let line = line.max(self.parents.line);
                     return error(line, format!("the tree has {got} parents for {n} vertices"));
                 }
-                patch = patch.tree(root, &self.parents.items);
+                patch = patch.tree(root as usize, &self.parents.items);
             }
         }
         if let Some(missing) = self.places.items.iter().position(Option::is_none) {
@@ -219,9 +251,9 @@ impl Reader {
 }
 
 impl<T> List<T> {
-    fn at_most(&mut self, n: usize, line: usize, word: &str) -> Result<(), String> {
+    fn at_most(&mut self, n: u32, line: usize, word: &str) -> Result<(), String> {
         self.line = line;
-        if self.items.len() > n {
+        if self.items.len() > n as usize {
             return Err(format!("{word} has more than {n} numbers, one for each vertex"));
         }
         Ok(())
@@ -233,12 +265,12 @@ fn exactly<'a, const N: usize>(words: &[&'a str], wanted: &str) -> Result<[&'a s
     <[&str; N]>::try_from(words).map_err(|_| format!("{wanted}, but {got} are given"))
 }
 
-fn number(word: &str, most: u64) -> Result<u64, String> {
+fn number(word: &str, most: u32) -> Result<u32, String> {
     let digits = !word.is_empty() && word.bytes().all(|b| b.is_ascii_digit());
     if !digits {
         return Err(format!("\"{word}\" is not a whole number"));
     }
-    match word.parse::<u64>() {
+    match word.parse() {
         Ok(value) if value <= most => Ok(value),
         _ => Err(format!("{word} is too large: at most {most} can be written here")),
     }
@@ -254,7 +286,7 @@ fn coordinate(word: &str) -> Result<f64, String> {
 #[cfg(test)]
 mod tests {
     use super::parse;
-    use crate::Patch;
+    use crate::{Edge, Patch};
 
     #[test]
     fn a_whole_patch() {
@@ -264,7 +296,8 @@ mod tests {
         let patch = Patch::new(3).edge(1, 0, 7).edge(1, 2, 4);
         let patch = patch.mu(&[1, 2, 3]).nu(&[3, 2, 1]).tree(2, &[1, 2, 2]);
         assert_eq!(drawing.patch, patch);
-        assert_eq!(drawing.patch.sorted_edges(), [(0, 1, 7), (1, 2, 4)]);
+        let edges: Vec<Edge> = drawing.patch.graph().iter().collect();
+        assert_eq!(edges, [(0, 1, 7), (1, 2, 4)].map(Edge::from));
         assert_eq!(drawing.title, "Two words");
         assert_eq!(drawing.places, [(0.0, 0.0), (1.5, 0.0), (2.0, -1.0)]);
     }

@@ -36,7 +36,8 @@ fn bundled_patches_are_sound() {
             .unwrap_or_else(|e| panic!("{}: {e}", path.display()))
             .patch;
         let answer = patch.run().unwrap_or_else(|e| panic!("{}: {e}", path.display()));
-        let problem = accept(&patch.image(), 100_000).expect("accepted");
+        let image = patch.image().expect("small numbers");
+        let problem = accept(&image, 100_000).expect("accepted");
         let expected = match &problem.tree {
             Some(tree) => reference::tree::evaluate(&problem, tree).cost,
             None => least_cost(&problem),
@@ -55,7 +56,7 @@ fn converter() {
         let image = scratch("converted.image");
         let output = program(env!("CARGO_BIN_EXE_patch-image"), &[&path, &image]);
         assert!(output.status.success());
-        assert_eq!(fs::read(&image).expect("an image"), patch.image());
+        assert_eq!(fs::read(&image).ok(), patch.image());
 
         let best = Path::new("--best");
         let output = program(env!("CARGO_BIN_EXE_patch-image"), &[best, &path, &image]);

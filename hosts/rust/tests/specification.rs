@@ -1,18 +1,36 @@
 //! The specification's marked cases and the examples of its refusal table, through the library.
 
-use weight_mover::{mover_run, record_size, Answer, Patch, Refusal};
+use weight_mover::{mover_run, record_size, run as run_image, Answer, Evaluation, Patch, Refusal};
 
-const RING: [(u8, u8, u16); 4] = [(0, 1, 1), (0, 3, 1), (1, 2, 1), (2, 3, 1)];
-const LINE: [(u8, u8, u16); 3] = [(0, 1, 2), (1, 2, 3), (2, 3, 1)];
+const RING: [(u32, u32, u32); 4] = [(0, 1, 1), (0, 3, 1), (1, 2, 1), (2, 3, 1)];
+const LINE: [(u32, u32, u32); 3] = [(0, 1, 2), (1, 2, 3), (2, 3, 1)];
 
+/// The answer, by tables and by the image.
 fn run(patch: Patch) -> Answer {
-    patch.run().expect("accepted")
+    let answer = patch.run().expect("accepted");
+    let image = patch.image().expect("small numbers");
+    assert_eq!(run_image(&image).expect("accepted").cost, answer.cost);
+    answer
+}
+
+/// The evaluation of the given tree, and whether it is judged best.
+fn weigh(patch: &Patch) -> (Evaluation, bool) {
+    let (graph, (mu, nu)) = (patch.graph(), patch.measures());
+    let (root, parents) = patch.given_tree().expect("a tree");
+    let evaluation = graph.evaluate(mu, nu, root, parents).expect("accepted");
+    assert_eq!(patch.run().as_ref(), Ok(&evaluation.answer));
+    let judged = graph.is_optimal(mu, nu, root, parents);
+    (evaluation, judged.expect("accepted"))
 }
 
 #[test]
 fn case_a() {
     let a = Patch::new(4).edges(LINE).mu(&[5, 0, 1, 0]).nu(&[0, 2, 1, 3]);
-    let answer = run(a.clone().tree(3, &[1, 2, 3, 3]));
+    let given = a.clone().tree(3, &[1, 2, 3, 3]);
+    let (evaluation, judged) = weigh(&given);
+    assert_eq!((evaluation.imbalance, judged), (vec![5, 3, 3, 0], true));
+    let answer = run(given);
+    assert_eq!(answer.flow(), [5, 3, 3, 0]);
     assert_eq!((answer.cost, answer.moves), (22, 2));
     assert_eq!(answer.potential, [6, 4, 1, 0]);
     assert_eq!((answer.root, answer.parents.as_slice()), (3, &[1, 2, 3, 3][..]));
@@ -24,16 +42,22 @@ fn case_a() {
 #[test]
 fn cases_b_and_c() {
     let b = Patch::new(4).edges(RING).mu(&[4, 0, 0, 0]).nu(&[0, 0, 0, 4]);
-    assert_eq!(run(b.clone().tree(0, &[0, 0, 1, 2])).cost, 12);
+    let given = b.clone().tree(0, &[0, 0, 1, 2]);
+    assert!(!weigh(&given).1);
+    assert_eq!(run(given).cost, 12);
     assert_eq!(run(b).cost, 4);
     let c = Patch::new(4).edges(RING).mu(&[1; 4]).nu(&[1; 4]);
-    let answer = run(c.tree(0, &[0, 0, 1, 2]));
+    let given = c.tree(0, &[0, 0, 1, 2]);
+    assert!(weigh(&given).1);
+    let answer = run(given);
     assert_eq!((answer.cost, answer.potential.as_slice()), (0, &[0, 1, 2, 3][..]));
 }
 
 #[test]
 fn case_d() {
     let d = Patch::new(3).edge(0, 1, 5).edge(0, 2, 1).edge(1, 2, 1);
+    let distances = d.graph().distances().expect("accepted");
+    assert_eq!(distances.table(), [0, 2, 1, 2, 0, 1, 1, 1, 0]);
     let answer = run(d.mu(&[3, 0, 0]).nu(&[0, 3, 0]));
     assert_eq!((answer.cost, answer.moves, answer.root), (6, 1, 0));
     assert_eq!(answer.amount(0, 1), 3);
@@ -51,7 +75,7 @@ fn case_e() {
 
 #[test]
 fn case_f() {
-    let f = |grains: u32| Patch::new(2).edge(0, 1, 65_535).mu(&[grains, 0]).nu(&[0, grains]);
+    let f = |grains: u64| Patch::new(2).edge(0, 1, 65_535).mu(&[grains, 0]).nu(&[0, grains]);
     assert_eq!(run(f(16_777_216)).cost, 1_099_494_850_560);
     assert_eq!(run(f(16_777_216).tree(1, &[1, 1])).cost, 1_099_494_850_560);
     assert_eq!(f(16_777_217).run(), Err(Refusal::TotalTooLarge));
@@ -61,20 +85,26 @@ fn case_f() {
 fn cases_g_and_h() {
     let line = Patch::new(6).edges((0..5).map(|x| (x, x + 1, 1)));
     let line = line.mu(&[1, 1, 0, 0, 0, 6]).nu(&[0, 0, 4, 2, 2, 0]);
-    let g = run(line.clone().tree(5, &[1, 2, 3, 4, 5, 5]));
+    let g = line.clone().tree(5, &[1, 2, 3, 4, 5, 5]);
+    assert_eq!(weigh(&g).0.imbalance, [1, 2, -2, -4, -6, 0]);
+    let g = run(g);
     assert_eq!((g.cost, g.moves), (15, 5));
     assert_eq!(g.potential, [-1, -2, -3, -2, -1, 0]);
-    assert_eq!(run(line.clone().tree(0, &[0, 0, 1, 2, 3, 4])).cost, 15);
+    let h = line.clone().tree(0, &[0, 0, 1, 2, 3, 4]);
+    assert_eq!(weigh(&h).0.imbalance, [0, -1, -2, 2, 4, 6]);
+    assert_eq!(run(h).cost, 15);
     assert_eq!(run(line).cost, 15);
 }
 
-/// The examples of the refusal table; an image cannot hold those of lists that differ in length.
+/// The examples of the refusal table, over tables.
 #[test]
 fn refusal_table() {
     let two = || Patch::new(2).edge(0, 1, 1);
     let three = || Patch::new(3).edge(0, 1, 1).edge(1, 2, 1);
     assert_eq!(Patch::new(0).run(), Err(Refusal::VertexCount));
     assert_eq!(Patch::new(65).run(), Err(Refusal::VertexCount));
+    assert_eq!(two().mu(&[0, 0, 0]).run(), Err(Refusal::TableSize));
+    assert_eq!(two().tree(0, &[0]).run(), Err(Refusal::TableSize));
     let crowded = (0..513).fold(Patch::new(2), |patch, _| patch.edge(0, 1, 1));
     assert_eq!(crowded.run(), Err(Refusal::TableSize));
     assert_eq!(two().edge(0, 1, 2).run(), Err(Refusal::EdgeOrder));
@@ -88,10 +118,22 @@ fn refusal_table() {
     assert_eq!(two().tree(0, &[1, 0]).run(), Err(Refusal::TreeParents));
     assert_eq!(three().tree(0, &[0, 0, 0]).run(), Err(Refusal::TreeEdge));
     assert_eq!(three().tree(0, &[0, 2, 1]).run(), Err(Refusal::TreeCycle));
-    assert_eq!(two().mu(&[1]).run(), Err(Refusal::SectionLength));
-    assert_eq!(two().tree(0, &[0]).run(), Err(Refusal::SectionLength));
+}
 
-    let image = two().image();
+/// The examples of the refusal table that are about images.
+#[test]
+fn refusal_table_of_images() {
+    let two = || Patch::new(2).edge(0, 1, 1);
+    let image = |patch: Patch| patch.image().expect("small numbers");
+    assert_eq!(run_image(&image(Patch::new(0))), Err(Refusal::VertexCount));
+    assert_eq!(run_image(&image(Patch::new(65))), Err(Refusal::VertexCount));
+    assert_eq!(run_image(&image(two().mu(&[1]))), Err(Refusal::SectionLength));
+    assert_eq!(
+        run_image(&image(two().tree(0, &[0]))),
+        Err(Refusal::SectionLength)
+    );
+
+    let image = image(two());
     let mut record = [0xA5; record_size(2)];
     assert_eq!(mover_run(&image[..35], &mut record), 11);
     assert_eq!(mover_run(&[], &mut []), 11);

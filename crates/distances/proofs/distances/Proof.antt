@@ -1,30 +1,45 @@
+use borrow.Author.Needs.{needs}
 use mathlib.Core.Path.{sym, _∙_}
-use native.Mathlib.Omega.{arith}
-use Rattle.distances.proofs.DistanceCases.{number, not-done, enough, all-done}
+use Rattle.distances.proofs.Laws.DistanceCases.{number, not-done, enough, all-done}
 use Rattle.distances.proofs.distances.Statement.{statement}
 use Rattle.distances.proofs.distances.Tie as tie
 
 returns : tie.Need-returns
-returns c = let r = c .before .before .before .before .before .before .before .before .square-fits .ensures in let n = c .before .before .before .before .check .ensures .number in (number _ _ _ _ r n, not-done _ _ _ _ r n (c .if1 .taken))
+returns c =
+    let k : tie.After-check = search in
+    let f : tie.After-square-fits = search in
+    let r = f .square-fits .ensures in
+    let n = k .check .ensures .number in
+    (number _ _ _ _ r n, not-done _ _ _ _ r n (c .if1 .taken))
 
 fill-distances-requires : tie.Need-fill-distances-requires
-fill-distances-requires c κs = let k = enough _ (c .before .before .before .before .before .before .before .before .before .before .before .before .before .before .args .out .now) _ _ (c .before .before .before .before .before .before .before .before .before .square-fits .ensures) (c .before .before .before .before .before .check .ensures .number) (c .before .if1 .left) in
-    (k .0 .vertices, k .0 .lists, k .0 .edges, k .0 .lengths, k .1)
+fill-distances-requires c κs =
+    let e : tie.Else1 = search in
+    let k : tie.After-check = search in
+    let f : tie.After-square-fits = search in
+    let s : tie.Start = search in
+    let a = enough _ (s .args .out .now) _ _ (f .square-fits .ensures) (k .check .ensures .number) (e .if1 .left) in
+    (a .0 .vertices, a .0 .lists, a .0 .edges, a .0 .lengths, a .1)
 
 returns-2 : tie.Need-returns-2
-returns-2 c = let r = c .before .before .before .before .before .before .before .before .before .before .before .before .square-fits .ensures in let n = c .before .before .before .before .before .before .before .before .check .ensures .number in let z = c .before .before .before .before .if1 .left in
-    (sym z ∙ number _ _ _ _ r n, all-done _ _ _ _ r n z _ (c .before .before .fill-distances .ensures))
+returns-2 c =
+    let d : tie.After-fill-distances = search in
+    let e : tie.Else1 = search in
+    let k : tie.After-check = search in
+    let f : tie.After-square-fits = search in
+    let r = f .square-fits .ensures in
+    let n = k .check .ensures .number in
+    (sym (e .if1 .left) ∙ number _ _ _ _ r n, all-done _ _ _ _ r n (e .if1 .left) _ (d .fill-distances .ensures))
 
 pub distances-spec : {M : Type 1} → statement M
 distances-spec =
     tie.close
     (tie.spec
-    (λ c κs. omega arith)
-    (λ c. omega arith)
-    (λ c. omega arith)
-    (λ c. omega arith)
-    (λ c κs. omega arith)
+    (λ c κs. search needs)
+    (λ c. search needs)
+    (λ c. search needs)
+    (λ c κs. search needs)
     returns
     fill-distances-requires
-    (λ c. omega arith)
+    (λ c. search needs)
     returns-2)

@@ -1,5 +1,5 @@
 use native.Mathlib.Omega.{arith}
-use Rattle.host_record.specs.RecordLaws.{figures}
+use Rattle.host_record.proofs.Laws.Record.{figures}
 use borrow.Author.Needs.{needs}
 use Rattle.host_record.proofs.write_figures.Statement.{statement}
 use Rattle.host_record.proofs.write_figures.Tie as tie

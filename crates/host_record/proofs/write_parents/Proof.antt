@@ -1,37 +1,28 @@
-use Prim.Native.Nat.{_≤_, _-_}
-use mathlib.Core.Path.{_≡_, refl}
+-- `write_parents` meets its contract.
+use Prim.Native.Nat.{_-_}
+use mathlib.Core.Path.{refl}
 use native.Mathlib.Omega.{arith}
-use lib.ListN.{length}
 use Rattle.arithmetic.specs.Table.{at}
-use Rattle.host_record.specs.Record.{fields}
-use Rattle.host_record.specs.Placed.{placed}
-use Rattle.host_record.specs.RecordLaws.{fields-none, fields-more, fields-end}
-use borrow.Author.Needs.{needs}
+use Rattle.little_endian.specs.LittleEndian.{fields}
+use Rattle.little_endian.proofs.Laws.Buffer.{Placing}
+use Rattle.little_endian.proofs.Laws.Byte.{section-none, section-more, section-end}
 use Rattle.host_record.proofs.write_parents.Statement.{statement}
 use Rattle.host_record.proofs.write_parents.Tie as tie
 
 abbrev Inv-loop : tie.InvT-loop
-Inv-loop n parents out₀ i₀ out i = (i ≤ n) × (length out ≡ length out₀) × (out ≡ placed 0 (fields 1 i (at parents)) out₀)
+Inv-loop n parents out₀ i₀ out i = Placing 0 n (λ i. fields 1 i (at parents)) out₀ i out
 
 abbrev μ-loop : tie.MeasureT-loop
 μ-loop n parents out₀ i₀ out i = n - i
 
-loop-holds : tie.Need-loop-holds Inv-loop μ-loop
-loop-holds c = (omega arith, refl, fields-none 1 _ _)
-
 loop-again : tie.Need-loop-again Inv-loop μ-loop
 loop-again c =
-    let l = c .before .before .before .before .before .before .loop in (
-      omega arith,
-      search needs,
-      fields-more 1 (at (c .before .before .before .before .before .before .before .before .before .args .parents .now)) _ _ _ _ (l .out) _ (omega arith) (l .inv .2) (omega arith) refl (c .before .before .put-byte .ensures),
-    )
-
-same-length : tie.Need-same-length Inv-loop μ-loop
-same-length c = c .before .loop .inv .1
+    let l : tie.In-loop Inv-loop μ-loop = search in
+    let w : tie.After-put-byte Inv-loop μ-loop = search in
+    section-more _ _ (l .before .loop .inv) (l .loop-test .taken) (omega arith) (omega arith) refl (w .put-byte .ensures)
 
 returns : tie.Need-returns Inv-loop μ-loop
-returns c = fields-end _ _ _ _ _ _ (c .before .loop .inv .0) (c .loop-test .left) (c .before .loop .inv .2)
+returns c = section-end _ _ (c .before .loop .inv) (c .loop-test .left)
 
 pub write-parents-spec : {M : Type 1} → statement M
 write-parents-spec =
@@ -39,12 +30,12 @@ write-parents-spec =
     (tie.spec
     Inv-loop
     μ-loop
-    loop-holds
+    (λ c. section-none _ _)
     (λ c. omega arith)
     (λ c. omega arith)
     (λ c κs. omega arith)
     (λ c. omega arith)
     (λ c. omega arith)
     loop-again
-    same-length
+    (λ c. c .before .loop .inv .long)
     returns)

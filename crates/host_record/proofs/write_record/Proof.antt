@@ -1,7 +1,7 @@
 use native.Mathlib.Omega.{arith}
 use mathlib.Core.Path.{_≡_, refl}
 use lib.ListN.{length}
-use Rattle.host_record.specs.RecordLaws.{sections}
+use Rattle.host_record.proofs.Laws.Record.{sections}
 use borrow.Author.Needs.{needs}
 use Rattle.host_record.proofs.write_record.Statement.{statement}
 use Rattle.host_record.proofs.write_record.Tie as tie

@@ -1,6 +1,6 @@
 use native.Mathlib.Omega.{arith}
-use Rattle.listing.specs.ListingLaws.{entry-none, positive, length-some, entry-wrote}
-use Rattle.listing.specs.Wrote.{wrote-none}
+use Rattle.listing.proofs.Laws.Listing.{entry-none, positive, length-some, entry-wrote}
+use Rattle.decimal_text.proofs.Laws.Wrote.{wrote-none}
 use borrow.Author.Needs.{needs}
 use Rattle.listing.proofs.write_entry.Statement.{statement}
 use Rattle.listing.proofs.write_entry.Tie as tie

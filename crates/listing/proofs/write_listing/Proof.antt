@@ -1,7 +1,7 @@
 use native.Mathlib.Nat.{mul-le-mul}
 use native.Mathlib.Omega.{arith}
-use Rattle.weight_mover.specs.AnswerLaws.{answer-few}
-use Rattle.listing.specs.ListedLaws.{refused-listed, best-listed, weighed-listed}
+use Rattle.image_answer.proofs.Laws.Answer.{answer-few}
+use Rattle.listing.proofs.Laws.Listed.{refused-listed, best-listed, evaluated-listed}
 use Rattle.listing.proofs.write_listing.Statement.{statement}
 use Rattle.listing.proofs.write_listing.Tie as tie
 
@@ -24,16 +24,16 @@ returns-2 c =
     let k : tie.After-answer-image = search in
     best-listed (k .answer-image .ensures) (c .before .before .before .before .before .if1 .left) (c .before .before .if2 .taken) (c .write-best .ensures .0) (c .write-best .ensures .1)
 
-write-weighed-requires : tie.Need-write-weighed-requires
-write-weighed-requires c κs =
+write-evaluated-requires : tie.Need-write-evaluated-requires
+write-evaluated-requires c κs =
     let k : tie.After-answer-image = search in
     let few = answer-few (k .answer-image .ensures) (c .before .before .before .before .before .if1 .left) in
-    (few .0, omega arith, omega (arith, c .write-weighed-arg .given .0 .1))
+    (few .0, omega arith, omega (arith, c .write-evaluated-arg .given .0 .1))
 
 returns-3 : tie.Need-returns-3
 returns-3 c =
     let k : tie.After-answer-image = search in
-    weighed-listed (k .answer-image .ensures) (c .before .before .before .before .before .before .if1 .left) (c .before .before .before .if2 .left) (c .write-weighed .ensures .0) (c .write-weighed .ensures .1)
+    evaluated-listed (k .answer-image .ensures) (c .before .before .before .before .before .before .if1 .left) (c .before .before .before .if2 .left) (c .write-evaluated .ensures .0) (c .write-evaluated .ensures .1)
 
 pub write-listing-spec : {M : Type 1} → statement M
 write-listing-spec =
@@ -47,5 +47,5 @@ write-listing-spec =
     write-best-requires
     returns-2
     (λ c. omega arith)
-    write-weighed-requires
+    write-evaluated-requires
     returns-3)

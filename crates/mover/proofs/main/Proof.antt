@@ -1,6 +1,6 @@
 use native.Mathlib.Omega.{arith}
 use lib.ListN.{length-take}
-use Rattle.listing.specs.ListedLaws.{listed-within}
+use Rattle.listing.proofs.Laws.Listed.{listed-within}
 use borrow.Author.Needs.{needs}
 use Rattle.mover.proofs.main.Statement.{statement}
 use Rattle.mover.proofs.main.Tie as tie

@@ -1,50 +1,76 @@
--- The loop's invariant: the tables are labelled from the start, and the quiet edges lower no label; the sum of the labels falls, or more edges are quiet.
-use Prim.Native.Nat.{_+_, _*_, _-_}
+-- The loop's invariant: the tables are labelled from the start, and no edge can lower a label upward; with each round the sum of the labels falls.
 use mathlib.Core.Path.{_≡_, refl}
 use native.Mathlib.Omega.{arith}
 use lib.ListN.{length}
 use Rattle.arithmetic.specs.Sum.{sum}
 use Rattle.arithmetic.specs.Table.{at}
 use Rattle.graph.specs.Graph.{graph}
-use Rattle.shortest_paths.specs.Labels.{Quiet}
-use Rattle.shortest_paths.proofs.Labelling.{vertices, lists, first-labelled, quiet-none, quiet-more, less-left, all-quiet, searched}
+use Rattle.shortest_paths.specs.Steps.Labels.{Labelled, FeasibleUp}
+use Rattle.shortest_paths.proofs.Laws.Labelling.{vertices, first-labelled, searched}
 use Rattle.shortest_paths.proofs.shortest_path_tree.Statement.{statement}
 use Rattle.shortest_paths.proofs.shortest_path_tree.Tie as tie
 
 abbrev Inv-loop : tie.InvT-loop
-Inv-loop n a b lengths start parents₀ edge₀ labels₀ e₀ quiet₀ parents edge labels e quiet = (length parents ≡ length parents₀) × ((length edge ≡ length edge₀) × ((length labels ≡ length labels₀)
-    × Quiet (graph n a b lengths) start e quiet parents edge labels))
+Inv-loop n a b lengths start parents₀ edge₀ labels₀ parents edge labels =
+    (length parents ≡ length parents₀) × ((length edge ≡ length edge₀) × ((length labels ≡ length labels₀)
+    × (Labelled (graph n a b lengths) start parents edge labels × FeasibleUp a b lengths labels)))
 
 abbrev μ-loop : tie.MeasureT-loop
-μ-loop n a b lengths start parents₀ edge₀ labels₀ e₀ quiet₀ parents edge labels e quiet = sum n (at labels) * (length a + 1) + (length a - quiet)
+μ-loop n a b lengths start parents₀ edge₀ labels₀ parents edge labels = sum n (at labels)
 
 clear-requires : tie.Need-clear-requires Inv-loop μ-loop
-clear-requires c κs = let s = c .before .before .before .before .before .before .before .before .pre in (omega (arith, s .start-in, vertices (s .formed)), (s .wide .0, s .wide .1 .1))
+clear-requires c κs =
+    let s : tie.Start Inv-loop μ-loop = search in
+    (omega (arith, s .pre .start-in, vertices (s .pre .formed)), (s .pre .wide .0, s .pre .wide .1 .1))
+
+sweep-up-requires : tie.Need-sweep-up-requires Inv-loop μ-loop
+sweep-up-requires c κs =
+    let s : tie.Start Inv-loop μ-loop = search in
+    let k : tie.After-clear Inv-loop μ-loop = search in
+    (s .args .n, (s .args .start, first-labelled (s .pre) (k .clear .ensures)))
 
 loop-holds : tie.Need-loop-holds Inv-loop μ-loop
-loop-holds c = (refl, (refl, (refl, quiet-none (first-labelled (c .before .before .before .before .before .before .before .before .before .before .before .before .before .pre) (c .before .before .before .before .clear .ensures)))))
+loop-holds c =
+    let s : tie.Start Inv-loop μ-loop = search in
+    let k : tie.After-clear Inv-loop μ-loop = search in
+    let u : tie.After-sweep-up Inv-loop μ-loop = search in
+    let w = u .sweep-up .ensures _ _ (first-labelled (s .pre) (k .clear .ensures)) in
+    (refl, (refl, (refl, (w .labelled, λ e l. w .feasible e (omega arith) l))))
 
-relax-edge-requires : tie.Need-relax-edge-requires Inv-loop μ-loop
-relax-edge-requires c κs = let q = c .before .before .before .before .loop .inv .1 .1 .1 in ((c .before .before .before .before .before .before .before .before .before .before .before .before .before .before .before .before .before .before .args .n, (c .before .before .before .before .before .before .before .before .before .before .before .before .before .before .before .before .before .before .args .start, q .labelled)), q .edge (omega arith))
-
-longer-requires : tie.Need-longer-requires Inv-loop μ-loop
-longer-requires c κs = let q = c .before .before .before .before .before .before .before .before .before .before .before .loop .inv .1 .1 .1 in omega (arith, lists (q .labelled .can .formed))
-
-next-requires : tie.Need-next-requires Inv-loop μ-loop
-next-requires c κs = let q = c .before .before .before .before .before .before .before .before .before .before .before .before .loop .inv .1 .1 .1 in omega (arith, q .edge (omega arith), lists (q .labelled .can .formed))
+round-requires : tie.Need-round-requires Inv-loop μ-loop
+round-requires c κs =
+    let s : tie.Start Inv-loop μ-loop = search in
+    let l : tie.At-loop Inv-loop μ-loop = search in
+    ((s .args .n, (s .args .start, l .loop .inv .1 .1 .1 .0)), l .loop .inv .1 .1 .1 .1)
 
 loop-less : tie.Need-loop-less Inv-loop μ-loop
-loop-less c = let q = c .before .before .before .before .before .before .before .before .before .before .before .before .before .loop .inv .1 .1 .1 in less-left q (c .before .before .before .before .before .before .before .before .before .before .before .before .loop-test .taken) _ (c .before .before .before .before .before .before .before .before .relax-edge .ensures _ _ (q .labelled)) _ (c .before .longer .ensures)
+loop-less c =
+    let l : tie.At-loop Inv-loop μ-loop = search in
+    let k : tie.After-round Inv-loop μ-loop = search in
+    let w = k .round .ensures _ _ (l .loop .inv .1 .1 .1 .0) in
+    omega (arith, rw (c .if1 .taken) at (w .less))
 
 loop-again : tie.Need-loop-again Inv-loop μ-loop
-loop-again c = let q = c .before .before .before .before .before .before .before .before .before .before .before .before .before .loop .inv .1 .1 .1 in
-    (omega arith, (omega arith, (omega arith, quiet-more q (c .before .before .before .before .before .before .before .before .before .before .before .before .loop-test .taken) _ (c .before .before .before .before .before .before .before .before .relax-edge .ensures _ _ (q .labelled)) _ _ (c .next .ensures) (c .before .longer .ensures))))
+loop-again c =
+    let l : tie.At-loop Inv-loop μ-loop = search in
+    let k : tie.After-round Inv-loop μ-loop = search in
+    let w = k .round .ensures _ _ (l .loop .inv .1 .1 .1 .0) in
+    (omega arith, (omega arith, (omega arith, (w .labelled, w .up))))
 
 all-reached-requires : tie.Need-all-reached-requires Inv-loop μ-loop
-all-reached-requires c κs = let m = c .before .before .loop .inv .1 .1 .1 .labelled in omega (arith, m .can .wide, vertices (m .can .formed))
+all-reached-requires c κs =
+    let l : tie.At-loop Inv-loop μ-loop = search in
+    let k : tie.After-round Inv-loop μ-loop = search in
+    let w = k .round .ensures _ _ (l .loop .inv .1 .1 .1 .0) in
+    omega (arith, w .labelled .can .wide, vertices (w .labelled .can .formed))
 
 returns : tie.Need-returns Inv-loop μ-loop
-returns c = let q = c .before .before .before .loop .inv .1 .1 .1 in searched (q .labelled) (all-quiet q (omega arith)) _ (c .all-reached .ensures)
+returns c =
+    let l : tie.At-loop Inv-loop μ-loop = search in
+    let k : tie.After-round Inv-loop μ-loop = search in
+    let w = k .round .ensures _ _ (l .loop .inv .1 .1 .1 .0) in
+    let x : tie.Else1 Inv-loop μ-loop = search in
+    searched (w .labelled) (w .closed (x .if1 .left)) _ (c .all-reached .ensures)
 
 pub shortest-path-tree-spec : {M : Type 1} → statement M
 shortest-path-tree-spec =
@@ -53,10 +79,9 @@ shortest-path-tree-spec =
     Inv-loop
     μ-loop
     clear-requires
+    sweep-up-requires
     loop-holds
-    relax-edge-requires
-    longer-requires
-    next-requires
+    round-requires
     loop-less
     loop-again
     all-reached-requires

@@ -1,8 +1,8 @@
 use mathlib.Core.Path.{refl}
 use native.Mathlib.Omega.{arith}
 use borrow.Author.Needs.{needs}
-use Rattle.spanning_tree.specs.GivenLaws.{given-answers}
-use Rattle.tree_evaluation.specs.EvaluateLaws.{evaluate-refused, evaluable, potential-asked, evaluate-done}
+use Rattle.spanning_tree.proofs.Laws.Given.{given-answers}
+use Rattle.tree_evaluation.proofs.Laws.Evaluate.{evaluate-refused, evaluable, potential-asked, evaluate-done}
 use Rattle.tree_evaluation.proofs.evaluate.Statement.{statement}
 use Rattle.tree_evaluation.proofs.evaluate.Tie as tie
 
@@ -40,21 +40,6 @@ returns-2 c =
 
 pub evaluate-spec : {M : Type 1} → statement M
 evaluate-spec =
-    tie.close
-    (tie.spec
-    (λ c κs. search needs)
-    (λ c. search needs)
-    (λ c. search needs)
-    (λ c. search needs)
-    (λ c. search needs)
-    (λ c κs. search needs)
-    returns
-    (λ c κs. search needs)
-    (λ c. search needs)
-    evaluate-tree-requires
-    (λ c. search needs)
-    write-potential-requires
-    (λ c. search needs)
-    (λ c. search needs)
-    (λ c. search needs)
-    returns-2)
+    tie.close (tie.spec (λ c κs. omega arith) (λ c. omega arith) (λ c. omega arith) (λ c. omega arith) (λ c κs. omega arith)
+    returns (λ c κs. omega arith) (λ c. omega arith) evaluate-tree-requires (λ c. search needs) (λ c. omega arith)
+    write-potential-requires (λ c. omega arith) (λ c. omega arith) (λ c. omega arith) returns-2)

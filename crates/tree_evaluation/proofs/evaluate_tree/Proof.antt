@@ -4,9 +4,8 @@ use native.Mathlib.Omega.{arith}
 use lib.ListN.{length}
 use Rattle.arithmetic.specs.Table.{at}
 use Rattle.graph.specs.Graph.{graph}
-use Rattle.tree_walks.specs.Sums.{subtotals-within}
-use Rattle.transport_plan.specs.PlanSteps.{walked}
-use Rattle.tree_evaluation.specs.EvaluateLaws.{tree-evaluated}
+use Rattle.tree_walks.proofs.Laws.Sums.{subtotals-within}
+use Rattle.tree_evaluation.proofs.Laws.Evaluate.{tree-evaluated}
 use borrow.Author.Needs.{needs}
 use Rattle.tree_evaluation.proofs.evaluate_tree.Statement.{statement}
 use Rattle.tree_evaluation.proofs.evaluate_tree.Tie as tie
@@ -33,7 +32,7 @@ tree-cost-requires c κs = let p = c .before .before .before .before .before .be
 tree-plan-requires : tie.Need-tree-plan-requires
 tree-plan-requires c κs = let p = c .before .before .before .before .before .before .before .before .before .before .before .before .before .before .before .before .before .before .before .before .before .before .before .before .before .before .pre in
     let e = c .before .before .before .before .before .before .before .before .before .before .before .before .before .before .before .subtree-tables .ensures in
-    ((walked _ _ _ _ _ _ _ (p .few) (omega arith) (omega arith) (e .0) (e .1 .0), p .room-plan), p .measures)
+    ((record { small = p .few; long-depths = omega arith; long-masks = omega arith; depths-are = e .0 .each; masks-are = e .1 .0 .each }, p .room-plan), p .measures)
 
 returns : tie.Need-returns
 returns c = λ a b l h. let s = c .before .before .before .before .before .before .before .before .before .before .before .before .before .before .before .before .before .before .before .before .before .before .before .before .before .before .before .before .before .args in
@@ -42,23 +41,7 @@ returns c = λ a b l h. let s = c .before .before .before .before .before .befor
 
 pub evaluate-tree-spec : {M : Type 1} → statement M
 evaluate-tree-spec =
-    tie.close
-    (tie.spec
-    slice-aggregate-subtree-tables
-    (λ c. search needs)
-    (λ c. search needs)
-    (λ c. search needs)
-    (λ c. search needs)
-    subtree-tables-requires
-    (λ c. search needs)
-    (λ c. search needs)
-    write-imbalance-requires
-    (λ c. search needs)
-    (λ c. search needs)
-    tree-cost-requires
-    (λ c. search needs)
-    (λ c. search needs)
-    tree-plan-requires
-    (λ c. search needs)
-    (λ c. search needs)
-    returns)
+    tie.close (tie.spec slice-aggregate-subtree-tables (λ c. search needs) (λ c. search needs) (λ c. search needs)
+    (λ c. search needs) subtree-tables-requires (λ c. search needs) (λ c. search needs) write-imbalance-requires
+    (λ c. search needs) (λ c. search needs) tree-cost-requires (λ c. search needs) (λ c. search needs) tree-plan-requires
+    (λ c. search needs) (λ c. search needs) returns)

@@ -3,7 +3,8 @@ use Prim.Native.Nat.{_-_}
 use native.Mathlib.Omega.{arith}
 use Rattle.arithmetic.specs.Table.{at}
 use Rattle.rooted_tree.specs.Chain.{depth}
-use Rattle.tree_pivot.specs.PathWalk.{Walking, Handed, walk-none, walk-first, walk-more, walk-hand, walk-less, walk-end}
+use Rattle.tree_pivot.proofs.Laws.PathWalk.{Walking, walk-none, walk-first, walk-more, walk-hand, walk-less, walk-end}
+use Rattle.tree_pivot.specs.Steps.PathWalk.{Handed}
 use Rattle.tree_pivot.proofs.advance_path.Statement.{statement}
 use Rattle.tree_pivot.proofs.advance_path.Tie as tie
 

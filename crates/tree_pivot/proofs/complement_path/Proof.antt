@@ -3,8 +3,8 @@
 use native.Mathlib.Omega.{arith}
 use Rattle.arithmetic.specs.Table.{at}
 use Rattle.rooted_tree.specs.Chain.{depth}
-use Rattle.tree_pivot.specs.PathWalk.{walk-less, walk-end}
-use Rattle.tree_pivot.specs.PivotTables.{ComplementingPath, complementing-none, complementing-room, complementing-more}
+use Rattle.tree_pivot.proofs.Laws.PathWalk.{walk-less, walk-end}
+use Rattle.tree_pivot.proofs.Laws.PivotTables.{ComplementingPath, complementing-none, complementing-room, complementing-more}
 use Rattle.tree_pivot.proofs.complement_path.Statement.{statement}
 use Rattle.tree_pivot.proofs.complement_path.Tie as tie
 

@@ -1,6 +1,6 @@
 -- `move_totals` meets its contract: each step leaves what the next requires. Assumes nothing.
 use native.Mathlib.Omega.{arith}
-use Rattle.tree_pivot.specs.PivotTotals.{can-take, can-give, can-complement, moved-totals}
+use Rattle.tree_pivot.proofs.Laws.PivotTotals.{can-take, can-give, can-complement, moved-totals}
 use borrow.Author.Needs.{needs}
 use Rattle.tree_pivot.proofs.move_totals.Statement.{statement}
 use Rattle.tree_pivot.proofs.move_totals.Tie as tie

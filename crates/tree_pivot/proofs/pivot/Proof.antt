@@ -1,6 +1,6 @@
 -- `pivot` meets its contract: each step leaves what the next requires, and together they leave a cheaper basis. Assumes nothing.
 use native.Mathlib.Omega.{arith}
-use Rattle.tree_pivot.specs.PivotBasis.{can-move-supply, can-move-demand, can-move-masks, can-reverse-path, can-shift-potential, cheaper-basis}
+use Rattle.tree_pivot.proofs.Laws.PivotBasis.{can-move-supply, can-move-demand, can-move-masks, can-reverse-path, can-shift-potential, cheaper-basis}
 use borrow.Author.Needs.{needs}
 use Rattle.tree_pivot.proofs.pivot.Statement.{statement}
 use Rattle.tree_pivot.proofs.pivot.Tie as tie

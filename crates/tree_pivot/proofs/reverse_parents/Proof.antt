@@ -3,7 +3,7 @@
 use native.Mathlib.Omega.{arith}
 use Rattle.arithmetic.specs.Table.{at}
 use Rattle.rooted_tree.specs.Chain.{depth}
-use Rattle.tree_pivot.specs.PathReversal.{Reversing, reversing-none, reversing-size, reversing-low, reversing-last, reversing-less, reversing-more, reversing-end, reversing-next}
+use Rattle.tree_pivot.proofs.Laws.PathReversal.{Reversing, reversing-none, reversing-size, reversing-low, reversing-last, reversing-less, reversing-more, reversing-end, reversing-next}
 use Rattle.tree_pivot.proofs.reverse_parents.Statement.{statement}
 use Rattle.tree_pivot.proofs.reverse_parents.Tie as tie
 

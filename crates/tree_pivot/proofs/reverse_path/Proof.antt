@@ -1,6 +1,6 @@
 -- `reverse_path` meets its contract. Assumes nothing.
 use native.Mathlib.Omega.{arith}
-use Rattle.tree_pivot.specs.PivotBasis.{can-advance-path}
+use Rattle.tree_pivot.proofs.Laws.PivotBasis.{can-advance-path}
 use Rattle.tree_pivot.proofs.reverse_path.Statement.{statement}
 use Rattle.tree_pivot.proofs.reverse_path.Tie as tie
 

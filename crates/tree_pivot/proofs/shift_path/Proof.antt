@@ -2,8 +2,8 @@
 use native.Mathlib.Omega.{arith}
 use Rattle.arithmetic.specs.Table.{at}
 use Rattle.rooted_tree.specs.Chain.{depth}
-use Rattle.tree_pivot.specs.PathWalk.{walk-none, walk-less, walk-end}
-use Rattle.tree_pivot.specs.PivotTables.{ShiftingPath, shifting-room, shifting-more}
+use Rattle.tree_pivot.proofs.Laws.PathWalk.{walk-none, walk-less, walk-end}
+use Rattle.tree_pivot.proofs.Laws.PivotTables.{ShiftingPath, shifting-room, shifting-more}
 use Rattle.tree_pivot.proofs.shift_path.Statement.{statement}
 use Rattle.tree_pivot.proofs.shift_path.Tie as tie
 

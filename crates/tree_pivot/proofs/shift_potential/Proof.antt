@@ -1,6 +1,6 @@
 -- `shift_potential` meets its contract: what is left to do makes of the potential what the subtree makes of the first one. Assumes nothing.
 use native.Mathlib.Omega.{arith}
-use Rattle.tree_pivot.specs.PivotTables.{ShiftingPotential, potential-none, potential-out, potential-room, potential-fits, potential-more, potential-end}
+use Rattle.tree_pivot.proofs.Laws.PivotTables.{ShiftingPotential, potential-none, potential-out, potential-room, potential-fits, potential-more, potential-end}
 use Rattle.tree_pivot.proofs.shift_potential.Statement.{statement}
 use Rattle.tree_pivot.proofs.shift_potential.Tie as tie
 

@@ -3,8 +3,8 @@ use native.Mathlib.Nat.{lt-of-le-of-lt}
 use native.Mathlib.Omega.{arith}
 use lib.Count.{trailing-le}
 use lib.Dec.{lit<}
-use Rattle.arithmetic.specs.Mask.{bit}
-use Rattle.vertex_set.specs.LowestLaws.{zeros-lowest, some-lowest}
+use Rattle.arithmetic.specs.Steps.Mask.{bit}
+use Rattle.vertex_set.proofs.Laws.Lowest.{zeros-lowest, some-lowest}
 use Rattle.vertex_set.proofs.lowest_vertex.Statement.{statement}
 use Rattle.vertex_set.proofs.lowest_vertex.Tie as tie
 

@@ -1,7 +1,7 @@
 use native.Mathlib.Omega.{arith}
 use mathlib.Core.Path.{_≡_, sym}
-use Rattle.weight_mover.specs.AnswerLaws.{root-below, answer-few, plan-room, potentials-long}
-use Rattle.weight_mover.specs.RunLaws.{run-refused, run-room, run-done}
+use Rattle.image_answer.proofs.Laws.Answer.{root-below, answer-few, plan-room, potentials-long}
+use Rattle.weight_mover.proofs.Laws.Run.{run-refused, run-room, run-done}
 use Rattle.weight_mover.proofs.run.Statement.{statement}
 use Rattle.weight_mover.proofs.run.Tie as tie
 

@@ -1,4 +1,4 @@
-//! The refusal number of an image: the checks of the specification in their order.
+//! The refusal numbers: the checks of the specification in their order.
 
 use crate::problem::{Edge, Problem, Tree, HEADER};
 
@@ -12,14 +12,14 @@ pub fn record_size(n: usize) -> usize {
 
 /// The accepted problem in an image, or the number of its refusal.
 pub fn accept(image: &[u8], record_len: usize) -> Result<Problem, u32> {
-    let problem = read(image, record_len)?;
+    let problem = read(image, |n, _| record_len >= record_size(n))?;
     check_graph(&problem)?;
     check_measures(&problem)?;
     check_tree(&problem)?;
     Ok(problem)
 }
 
-fn refuse_if(number: u32, condition: bool) -> Result<(), u32> {
+pub(crate) fn refuse_if(number: u32, condition: bool) -> Result<(), u32> {
     if condition {
         Err(number)
     } else {
@@ -32,7 +32,9 @@ fn number(bytes: &[u8]) -> u64 {
 }
 
 /// Checks 11, 12, 13, 1 and 2, and the numbers of the image.
-fn read(image: &[u8], record_len: usize) -> Result<Problem, u32> {
+///
+/// `room` says for n and m whether the answer fits into what is lent.
+pub fn read(image: &[u8], room: impl Fn(usize, usize) -> bool) -> Result<Problem, u32> {
     refuse_if(11, image.len() < HEADER || image.len() > 65_536)?;
 
     let n = image[0] as usize;
@@ -54,7 +56,7 @@ fn read(image: &[u8], record_len: usize) -> Result<Problem, u32> {
     refuse_if(13, lengths[3] != 0 && lengths[3] != n + 1)?;
 
     refuse_if(1, n == 0 || n > 64)?;
-    refuse_if(2, m > 512 || record_len < record_size(n))?;
+    refuse_if(2, m > 512 || !room(n, m))?;
 
     let section = |k: usize| &image[sections[k].0 as usize..][..lengths[k]];
     let edges = section(0).chunks(4).map(|e| Edge {
@@ -97,25 +99,32 @@ pub fn check_graph(problem: &Problem) -> Result<(), u32> {
 
 /// Checks 6 and 7.
 pub fn check_measures(problem: &Problem) -> Result<(), u32> {
-    let total = |list: &[u64]| list.iter().sum::<u64>();
+    let total = |list: &[u64]| list.iter().map(|&x| u128::from(x)).sum::<u128>();
     let (mu, nu) = (total(&problem.mu), total(&problem.nu));
-    refuse_if(6, mu > MAX_TOTAL || nu > MAX_TOTAL)?;
+    refuse_if(6, mu.max(nu) > u128::from(MAX_TOTAL))?;
     refuse_if(7, mu != nu)
 }
 
 /// Checks 8, 9 and 10, where there is a tree.
 pub fn check_tree(problem: &Problem) -> Result<(), u32> {
-    let Some(Tree { root, parents }) = &problem.tree else {
+    let Some(tree) = &problem.tree else {
         return Ok(());
     };
-    let n = problem.n;
+    check_parents(problem.n, tree)?;
+    let on_edge = |x: usize| x == tree.root || problem.length(x, tree.parents[x]).is_some();
+    refuse_if(9, !(0..problem.n).all(on_edge))?;
+    check_chains(problem.n, tree)
+}
+
+/// Check 8, of n parents.
+pub fn check_parents(n: usize, Tree { root, parents }: &Tree) -> Result<(), u32> {
     refuse_if(8, *root >= n || parents.iter().any(|&p| p >= n))?;
     refuse_if(8, parents[*root] != *root)?;
-    refuse_if(8, (0..n).any(|x| x != *root && parents[x] == x))?;
-    refuse_if(
-        9,
-        (0..n).any(|x| x != *root && problem.length(x, parents[x]).is_none()),
-    )?;
+    refuse_if(8, (0..n).any(|x| x != *root && parents[x] == x))
+}
+
+/// Check 10, of parents that pass check 8.
+pub fn check_chains(n: usize, Tree { root, parents }: &Tree) -> Result<(), u32> {
     // A chain that has not met the root after n steps runs in a cycle.
     let reaches = |x: usize| (0..n).fold(x, |y, _| parents[y]) == *root;
     refuse_if(10, !(0..n).all(reaches))

@@ -22,6 +22,18 @@ pub fn least_cost(problem: &Problem) -> u64 {
 /// The least cost of a plan, with a potential that proves it: 0 at vertex 0, within every edge's length,
 /// and weighing the measures' difference to the cost.
 pub fn optimum(problem: &Problem) -> (u64, Vec<i64>) {
+    let (network, potential) = successive_shortest_paths(problem);
+    let potential = potential.iter().map(|p| potential[0] - p).collect();
+    (network.cost(), potential)
+}
+
+/// A flow of least cost: on each edge what goes from the lower end to the upper, less than 0 where it goes
+/// the other way.
+pub fn least_flow(problem: &Problem) -> Vec<i64> {
+    successive_shortest_paths(problem).0.flow
+}
+
+fn successive_shortest_paths(problem: &Problem) -> (Network, Vec<i64>) {
     let mut network = Network::new(problem);
     let mut excess: Vec<i64> = (0..problem.n).map(|x| problem.difference(x)).collect();
     let mut potential = vec![0; problem.n];
@@ -41,8 +53,7 @@ pub fn optimum(problem: &Problem) -> (u64, Vec<i64>) {
             excess[sink] += amount;
         }
     }
-    let potential = potential.iter().map(|p| potential[0] - p).collect();
-    (network.cost(), potential)
+    (network, potential)
 }
 
 /// The graph with a flow on its edges.

@@ -4,21 +4,30 @@
 //! | module | content |
 //! |---|---|
 //! | [`problem`] | a graph, two measures, an optional spanning tree; the image format |
-//! | [`checks`] | the refusal number of an image, by the table of the specification |
+//! | [`checks`] | the refusal numbers, by the table of the specification |
+//! | [`lists`] | the arguments of the calls over tables, and their refusals |
 //! | [`tree`] | evaluation of a given spanning tree, word for word as defined |
 //! | [`flow`] | distances by Dijkstra, the least cost by successive shortest paths |
 //! | [`exhaustive`] | all spanning trees and all plans of a small problem |
 //! | [`record`] | the host record, and the test that an answer is right |
 //! | [`random`] | random problems, valid and faulty, and damaged images |
+//! | [`random_lists`] | random arguments of the calls over tables |
+//! | [`random_trees`] | spanning trees: best ones, nearly best ones, and those where descent stalls |
+//! | [`runs`] | how many cases a test runs, and from which seed |
 //!
 //! Speed is no aim here; the point is another algorithm, short enough to be read.
 
 pub mod checks;
 pub mod exhaustive;
 pub mod flow;
+pub mod lists;
 pub mod problem;
 pub mod random;
+pub mod random_lists;
+pub mod random_trees;
 pub mod record;
+pub mod runs;
 pub mod tree;
 
+pub use lists::Lists;
 pub use problem::{Edge, Layout, Problem, Tree};

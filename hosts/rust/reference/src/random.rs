@@ -245,18 +245,22 @@ pub fn measures(random: &mut Random, n: usize, kind: Measures) -> (Vec<u64>, Vec
 
 /// A random spanning tree of a connected graph, under a random root.
 pub fn spanning_tree(random: &mut Random, n: usize, edges: &[Edge]) -> Tree {
-    let mut order: Vec<&Edge> = edges.iter().collect();
+    let mut order: Vec<Edge> = edges.to_vec();
     random.shuffle(&mut order);
-    let mut component: Vec<usize> = (0..n).collect();
-    let mut chosen = Vec::new();
-    for e in order {
-        let (old, new) = (component[e.a], component[e.b]);
-        if old != new {
-            component.iter_mut().filter(|c| **c == old).for_each(|c| *c = new);
-            chosen.push((e.a, e.b));
-        }
-    }
+    let chosen = forest(n, order.iter().map(|e| (e.a, e.b)));
     hang(n, &chosen, random.index(n)).expect("a connected graph")
+}
+
+/// Of the pairs, in their order, those that close no cycle with the ones before.
+pub fn forest(n: usize, order: impl Iterator<Item = (usize, usize)>) -> Vec<(usize, usize)> {
+    let mut component: Vec<usize> = (0..n).collect();
+    order
+        .filter(|&(a, b)| {
+            let (old, new) = (component[a], component[b]);
+            component.iter_mut().filter(|c| **c == old).for_each(|c| *c = new);
+            old != new
+        })
+        .collect()
 }
 
 /// A problem that is accepted.
@@ -377,15 +381,21 @@ pub fn valid_case(random: &mut Random) -> Case {
     }
 }
 
-/// An image with the faults asked for, where the drawn problem has room for them.
-pub fn faulty_case(random: &mut Random, faults: &[Fault]) -> Case {
-    let mut problem = problem(random);
+/// The problem with the faults asked for, where it has room for them.
+pub fn spoiled(random: &mut Random, mut problem: Problem, faults: &[Fault]) -> Problem {
     if problem.tree.is_none() && faults.iter().any(|fault| fault.is_in_tree()) {
         problem.tree = Some(spanning_tree(random, problem.n, &problem.edges));
     }
     for &fault in faults {
         spoil_problem(random, &mut problem, fault);
     }
+    problem
+}
+
+/// An image with the faults asked for, where the drawn problem has room for them.
+pub fn faulty_case(random: &mut Random, faults: &[Fault]) -> Case {
+    let drawn = problem(random);
+    let problem = spoiled(random, drawn, faults);
     let mut case = Case {
         image: problem.image_with(layout(random)),
         record_len: record_size(problem.n),

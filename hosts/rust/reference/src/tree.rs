@@ -1,5 +1,6 @@
 //! Evaluation of a spanning tree (the specification's weighing), as it is defined.
 
+use crate::checks::{check_chains, check_parents};
 use crate::problem::{Problem, Tree};
 
 /// What evaluating a tree gives.
@@ -29,6 +30,24 @@ impl Tree {
     }
 }
 
+/// What a tree by value tells of vertex v: depth, parent, and the word of the vertices below.
+///
+/// Any numbers may be given; of the parents only the first n count.
+pub fn told(n: usize, root: usize, parents: &[u32], v: usize) -> (u32, u32, u64) {
+    let unknown = (0, 64, 0);
+    if n > 64 || v >= n {
+        return unknown;
+    }
+    let parents = parents[..n].iter().map(|&p| p as usize).collect();
+    let tree = Tree { root, parents };
+    if check_parents(n, &tree).is_err() || check_chains(n, &tree).is_err() {
+        return unknown;
+    }
+    let below = (0..n).filter(|&y| tree.is_below(y, v));
+    let word = below.map(|y| 1 << y).sum();
+    (tree.depth(v) as u32, tree.parents[v] as u32, word)
+}
+
 /// +1 where the imbalance is zero or more, −1 where it is less.
 fn sign(imbalance: i64) -> i64 {
     if imbalance >= 0 {
@@ -38,30 +57,47 @@ fn sign(imbalance: i64) -> i64 {
     }
 }
 
+/// For each vertex those below it.
+fn below(n: usize, tree: &Tree) -> Vec<Vec<usize>> {
+    (0..n)
+        .map(|x| (0..n).filter(|&y| tree.is_below(y, x)).collect())
+        .collect()
+}
+
+fn imbalance(problem: &Problem, below: &[Vec<usize>]) -> Vec<i64> {
+    let sum = |ys: &Vec<usize>| ys.iter().map(|&y| problem.difference(y)).sum();
+    below.iter().map(sum).collect()
+}
+
+/// The length of the edge from a vertex, not the root, up to its parent.
+fn length_up(problem: &Problem, tree: &Tree, x: usize) -> u64 {
+    problem.length(x, tree.parents[x]).expect("a tree edge")
+}
+
+/// The cost of an accepted tree.
+pub fn tree_cost(problem: &Problem, tree: &Tree) -> u64 {
+    cost(problem, tree, &imbalance(problem, &below(problem.n, tree)))
+}
+
+fn cost(problem: &Problem, tree: &Tree, imbalance: &[i64]) -> u64 {
+    let others = (0..problem.n).filter(|&x| x != tree.root);
+    let on_edge = |x: usize| length_up(problem, tree, x) * imbalance[x].unsigned_abs();
+    others.map(on_edge).sum()
+}
+
 /// Evaluates an accepted tree of an accepted problem.
 pub fn evaluate(problem: &Problem, tree: &Tree) -> Evaluation {
     let n = problem.n;
-    let below: Vec<Vec<usize>> = (0..n)
-        .map(|x| (0..n).filter(|&y| tree.is_below(y, x)).collect())
-        .collect();
-    let imbalance: Vec<i64> = below
-        .iter()
-        .map(|ys| ys.iter().map(|&y| problem.difference(y)).sum())
-        .collect();
-
-    let mut cost = 0;
+    let below = below(n, tree);
+    let imbalance = imbalance(problem, &below);
     let mut potential = vec![0; n];
     for x in (0..n).filter(|&x| x != tree.root) {
-        let length = problem.length(x, tree.parents[x]).expect("a tree edge");
-        cost += length * imbalance[x].unsigned_abs();
-        for &y in &below[x] {
-            potential[y] += sign(imbalance[x]) * length as i64;
-        }
+        let rise = sign(imbalance[x]) * length_up(problem, tree, x) as i64;
+        below[x].iter().for_each(|&y| potential[y] += rise);
     }
-
     let plan = plan(problem, tree, &below);
     Evaluation {
-        cost,
+        cost: cost(problem, tree, &imbalance),
         moves: moves(n, &plan),
         imbalance,
         potential,

@@ -3,9 +3,10 @@ use mathlib.Core.Path.{_≡_, refl}
 use mathlib.Core.List.{_++_}
 use native.Mathlib.Omega.{arith}
 use lib.ListN.{length, drop, length-set}
-use Rattle.arithmetic.specs.Table.{tab, tab-none, tab-store}
+use Rattle.arithmetic.specs.Table.{tab}
+use Rattle.arithmetic.proofs.Laws.Table.{tab-none, tab-store}
 use Rattle.graph.specs.Distance.{far}
-use Rattle.distances.proofs.FloydWarshallLaws.{clear-end}
+use Rattle.distances.proofs.Laws.FloydWarshall.{clear-end}
 use Rattle.distances.proofs.floyd_warshall.clear.Statement.{statement}
 use Rattle.distances.proofs.floyd_warshall.clear.Tie as tie
 

@@ -2,7 +2,7 @@ use Prim.Native.Nat.{_≤_, _-_}
 use native.Mathlib.Omega.{arith}
 use Rattle.graph.specs.Graph.{graph}
 use Rattle.graph.specs.Distance.{via}
-use Rattle.distances.proofs.FloydWarshallLaws.{Fills, via-none, via-bounded, via-zero, via-more, via-end}
+use Rattle.distances.proofs.Laws.FloydWarshall.{Fills, via-none, via-bounded, via-zero, via-more, via-end}
 use Rattle.distances.proofs.floyd_warshall.fill_distances.Statement.{statement}
 use Rattle.distances.proofs.floyd_warshall.fill_distances.Tie as tie
 

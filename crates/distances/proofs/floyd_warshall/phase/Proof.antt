@@ -1,7 +1,7 @@
 use Prim.Native.Nat.{_≤_, _-_}
 use native.Mathlib.Omega.{arith}
-use Rattle.arithmetic.specs.Table.{cell}
-use Rattle.distances.proofs.FloydWarshallLaws.{Fills, phaseTo, phase-none, phase-bounded, phase-more, phase-end}
+use Rattle.arithmetic.specs.Steps.Table.{cell}
+use Rattle.distances.proofs.Laws.FloydWarshall.{Fills, phaseTo, phase-none, phase-bounded, phase-more, phase-end}
 use Rattle.distances.proofs.floyd_warshall.phase.Statement.{statement}
 use Rattle.distances.proofs.floyd_warshall.phase.Tie as tie
 

@@ -1,6 +1,6 @@
 use native.Mathlib.Omega.{arith}
 use borrow.Author.Needs.{needs}
-use Rattle.arithmetic.specs.Table.{cell-below}
+use Rattle.arithmetic.proofs.Laws.Table.{cell-below}
 use Rattle.distances.proofs.floyd_warshall.put.Statement.{statement}
 use Rattle.distances.proofs.floyd_warshall.put.Tie as tie
 

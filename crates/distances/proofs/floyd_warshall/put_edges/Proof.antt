@@ -1,11 +1,11 @@
 use Prim.Native.Nat.{_≤_, _-_}
 use native.Mathlib.Omega.{arith}
 use lib.ListN.{length}
-use Rattle.arithmetic.specs.Table.{cell}
+use Rattle.arithmetic.specs.Steps.Table.{cell}
 use Rattle.graph.specs.Graph.{graph}
-use Rattle.graph.specs.EdgeLaws.{edge-order}
-use Rattle.graph.specs.Accepted.{lists-fit-in}
-use Rattle.distances.proofs.FloydWarshallLaws.{Fills, edgesTo, edges-none, edges-more, edges-end}
+use Rattle.graph.proofs.Laws.Edge.{edge-order}
+use Rattle.graph.proofs.Laws.Accepted.{lists-fit-in}
+use Rattle.distances.proofs.Laws.FloydWarshall.{Fills, edgesTo, edges-none, edges-more, edges-end}
 use Rattle.distances.proofs.floyd_warshall.put_edges.Statement.{statement}
 use Rattle.distances.proofs.floyd_warshall.put_edges.Tie as tie
 

@@ -2,8 +2,9 @@ use Prim.Native.Nat.{_≤_, _-_}
 use mathlib.Core.Path.{refl}
 use native.Mathlib.Omega.{arith}
 use borrow.Author.Needs.{needs}
-use Rattle.arithmetic.specs.Table.{cell, row-below}
-use Rattle.distances.proofs.FloydWarshallLaws.{Fills, rowTo, row-none, row-ahead, row-more, row-end}
+use Rattle.arithmetic.specs.Steps.Table.{cell}
+use Rattle.arithmetic.proofs.Laws.Table.{row-below}
+use Rattle.distances.proofs.Laws.FloydWarshall.{Fills, rowTo, row-none, row-ahead, row-more, row-end}
 use Rattle.distances.proofs.floyd_warshall.relax_row.Statement.{statement}
 use Rattle.distances.proofs.floyd_warshall.relax_row.Tie as tie
 

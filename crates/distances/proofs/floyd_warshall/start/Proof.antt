@@ -1,6 +1,6 @@
 use borrow.Author.Needs.{needs}
 use Rattle.graph.specs.Graph.{graph}
-use Rattle.distances.proofs.FloydWarshallLaws.{via-start}
+use Rattle.distances.proofs.Laws.FloydWarshall.{via-start}
 use Rattle.distances.proofs.floyd_warshall.start.Statement.{statement}
 use Rattle.distances.proofs.floyd_warshall.start.Tie as tie
 

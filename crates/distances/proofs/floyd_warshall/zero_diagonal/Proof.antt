@@ -1,7 +1,7 @@
 use Prim.Native.Nat.{_≤_, _-_}
 use native.Mathlib.Omega.{arith}
-use Rattle.arithmetic.specs.Table.{cell}
-use Rattle.distances.proofs.FloydWarshallLaws.{Fills, diagonalTo, diagonal-none, diagonal-more, diagonal-end}
+use Rattle.arithmetic.specs.Steps.Table.{cell}
+use Rattle.distances.proofs.Laws.FloydWarshall.{Fills, diagonalTo, diagonal-none, diagonal-more, diagonal-end}
 use Rattle.distances.proofs.floyd_warshall.zero_diagonal.Statement.{statement}
 use Rattle.distances.proofs.floyd_warshall.zero_diagonal.Tie as tie
 

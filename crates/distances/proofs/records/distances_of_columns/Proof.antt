@@ -1,7 +1,7 @@
 use mathlib.Core.Path.{sym}
 use native.Mathlib.Omega.{arith}
 use lib.Seq.{length-take-le}
-use Rattle.distances.proofs.RecordCases.{refused-1, refused-2, answered}
+use Rattle.distances.proofs.Laws.RecordCases.{refused-1, refused-2, answered}
 use Rattle.distances.proofs.records.distances_of_columns.Statement.{statement}
 use Rattle.distances.proofs.records.distances_of_columns.Tie as tie
 

@@ -40,8 +40,9 @@ use denote.Exit.{yes as kept}
 use Rattle.distances.specs.declared.records.EdgeRecord.{EdgeRecord}
 use Rattle.distances.specs.declared.records.Columns.{Columns}
 use Rattle.distances.specs.Distances.{distancesRefusal, distancesTable}
-use Rattle.distances.specs.Records.{graphOf, taken, OfColumns}
-use Rattle.distances.proofs.RecordCases.{full, of-records}
+use Rattle.distances.specs.Records.{graphOf}
+use Rattle.distances.specs.Steps.Records.{taken, OfColumns}
+use Rattle.distances.proofs.Laws.RecordCases.{full, of-records}
 use Rattle.distances.proofs.records.EdgeRecord as E
 use Rattle.distances.proofs.records.Columns as T
 use Rattle.distances.proofs.records.Columns.Laws as T′

@@ -50,8 +50,9 @@ use denote.Triple.Walked.{says, needs, Stays, stay-none-slice, stay-none, walkOf
 use denote.Exit.{yes as kept}
 use Rattle.distances.specs.declared.records.EdgeRecord.{EdgeRecord}
 use Rattle.distances.specs.declared.records.Columns.{Columns}
-use Rattle.distances.specs.Records.{lowerOf, upperOf, lengthOf, noEdge, column, taken}
-use Rattle.distances.proofs.RecordCases.{length-column, column-none, column-more}
+use Rattle.distances.specs.Records.{lowerOf, upperOf, lengthOf}
+use Rattle.distances.specs.Steps.Records.{noEdge, column, taken}
+use Rattle.distances.proofs.Laws.RecordCases.{length-column, column-none, column-more}
 use Rattle.distances.proofs.records.EdgeRecord as E
 use Rattle.distances.proofs.records.EdgeRecord.Laws as E′
 use Rattle.distances.proofs.records.Columns as T

@@ -1,7 +1,7 @@
 -- `exchange` meets its contract: join and leaving vertex are what the pivot requires, on either side. Assumes nothing.
 use mathlib.Core.Path.{sym, _∙_}
 use native.Mathlib.Omega.{arith}
-use Rattle.network_simplex.specs.Search.{exchange-join, exchange-leave, exchange-pivots, exchange-joins}
+use Rattle.network_simplex.proofs.Laws.Search.{exchange-join, exchange-leave, exchange-pivots, exchange-joins}
 use Rattle.network_simplex.proofs.search.exchange.Statement.{statement}
 use Rattle.network_simplex.proofs.search.exchange.Tie as tie
 

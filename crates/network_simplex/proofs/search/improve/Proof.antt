@@ -1,7 +1,7 @@
 -- `improve` meets its contract: edge e enters from the end with the higher potential. Assumes nothing.
 use mathlib.Core.Path.{sym, _∙_}
 use native.Mathlib.Omega.{arith}
-use Rattle.network_simplex.specs.Search.{lists, ends-low, improve-falls, exchange-input, improved}
+use Rattle.network_simplex.proofs.Laws.Search.{lists, ends-low, improve-falls, exchange-input, improved}
 use Rattle.network_simplex.proofs.search.improve.Statement.{statement}
 use Rattle.network_simplex.proofs.search.improve.Tie as tie
 

@@ -4,8 +4,8 @@ use mathlib.Core.Path.{_≡_, sym, _∙_}
 use native.Mathlib.Omega.{arith}
 use lib.ListN.{length}
 use Rattle.graph.specs.Graph.{graph}
-use Rattle.pivot_rules.specs.Entering.{Entering}
-use Rattle.network_simplex.specs.Search.{basisCost, Kept, search-few, search-edges, search-basis, search-enters, search-improves, search-keeps, search-less, search-ends}
+use Rattle.pivot_rules.specs.Steps.Entering.{Entering}
+use Rattle.network_simplex.proofs.Laws.Search.{basisCost, Kept, search-few, search-edges, search-basis, search-enters, search-improves, search-keeps, search-less, search-ends}
 use Rattle.network_simplex.proofs.search.improve_all.Statement.{statement}
 use Rattle.network_simplex.proofs.search.improve_all.Tie as tie
 

@@ -1,5 +1,5 @@
 -- `search` meets its contract: the reaches of at most 64 edges, and of at most 512. Assumes nothing.
-use Rattle.network_simplex.specs.Search.{search-reach, search-reaches, search-edges}
+use Rattle.network_simplex.proofs.Laws.Search.{search-reach, search-reaches, search-edges}
 use borrow.Author.Needs.{needs}
 use Rattle.network_simplex.proofs.search.search.Statement.{statement}
 use Rattle.network_simplex.proofs.search.search.Tie as tie

@@ -1,6 +1,6 @@
 -- `entering_edge` meets its contract: the tallest edge of its block by heights is the one that the potential violates the most. Assumes nothing.
 use native.Mathlib.Omega.{arith}
-use Rattle.pivot_rules.specs.Entering.{can-scan, tallest-first, tallest-second, enters}
+use Rattle.pivot_rules.proofs.Laws.Entering.{can-scan, tallest-first, tallest-second, enters}
 use borrow.Author.Needs.{needs}
 use Rattle.pivot_rules.proofs.entering.entering_edge.Statement.{statement}
 use Rattle.pivot_rules.proofs.entering.entering_edge.Tie as tie

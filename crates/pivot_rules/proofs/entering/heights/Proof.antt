@@ -2,8 +2,9 @@
 use Prim.Native.Nat.{_≤_, _-_}
 use mathlib.Core.Path.{_≡_}
 use native.Mathlib.Omega.{arith}
-use Rattle.tree_walks.specs.Walk.{Filled, filled-none, filled-more}
-use Rattle.pivot_rules.specs.Entering.{heightOf}
+use Rattle.arithmetic.specs.Steps.Fill.{Filled}
+use Rattle.arithmetic.proofs.Laws.Fill.{filled-none, filled-more}
+use Rattle.pivot_rules.specs.Steps.Entering.{heightOf}
 use Rattle.pivot_rules.proofs.entering.heights.Statement.{statement}
 use Rattle.pivot_rules.proofs.entering.heights.Tie as tie
 

@@ -3,8 +3,9 @@ use Prim.Native.Nat.{_≤_, _-_}
 use mathlib.Core.Path.{_≡_}
 use native.Mathlib.Omega.{arith}
 use lib.ListN.{length}
-use Rattle.tree_walks.specs.Walk.{Filled, filled-none, filled-more}
-use Rattle.pivot_rules.specs.Entering.{reachOf}
+use Rattle.arithmetic.specs.Steps.Fill.{Filled}
+use Rattle.arithmetic.proofs.Laws.Fill.{filled-none, filled-more}
+use Rattle.pivot_rules.specs.Steps.Entering.{reachOf}
 use Rattle.pivot_rules.proofs.entering.reaches.Statement.{statement}
 use Rattle.pivot_rules.proofs.entering.reaches.Tie as tie
 

@@ -3,7 +3,8 @@ use Prim.Native.Nat.{_+_, _*_, _-_, _<_}
 use mathlib.Core.Path.{refl}
 use native.Mathlib.Omega.{arith}
 use lib.ListN.{length}
-use Rattle.pivot_rules.specs.Entering.{Clear, clear-more, tallest-found, tallest-clear}
+use Rattle.pivot_rules.specs.Steps.Entering.{Clear}
+use Rattle.pivot_rules.proofs.Laws.Entering.{clear-more, tallest-found, tallest-clear}
 use Rattle.pivot_rules.proofs.entering.worst_from.Statement.{statement}
 use Rattle.pivot_rules.proofs.entering.worst_from.Tie as tie
 

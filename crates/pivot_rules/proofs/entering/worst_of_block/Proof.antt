@@ -2,7 +2,7 @@
 use Prim.Native.Nat.{_*_, _-_, _≤_}
 use mathlib.Core.Logic.{⊎-elim}
 use native.Mathlib.Omega.{arith}
-use Rattle.pivot_rules.specs.Entering.{TallestTo, tallest-none, tallest-more, tallest-keep, tallest-end}
+use Rattle.pivot_rules.proofs.Laws.Entering.{TallestTo, tallest-none, tallest-more, tallest-keep, tallest-end}
 use Rattle.pivot_rules.proofs.entering.worst_of_block.Statement.{statement}
 use Rattle.pivot_rules.proofs.entering.worst_of_block.Tie as tie
 

@@ -3,7 +3,7 @@ use mathlib.Core.Path.{sym, _∙_}
 use borrow.Author.Tests.{not-true, not-false}
 use Rattle.arithmetic.specs.Table.{at}
 use Rattle.rooted_tree.specs.Chain.{depth}
-use Rattle.pivot_rules.specs.Join.{JoinFrom, join-none, join-more, join-less, join-end}
+use Rattle.pivot_rules.proofs.Laws.Join.{JoinFrom, join-none, join-more, join-less, join-end}
 use Rattle.pivot_rules.proofs.leaving.join_vertex.Statement.{statement}
 use Rattle.pivot_rules.proofs.leaving.join_vertex.Tie as tie
 

@@ -2,7 +2,7 @@ use mathlib.Core.Logic.{⊎-elim}
 use native.Mathlib.Omega.{arith}
 use Rattle.arithmetic.specs.Table.{at}
 use Rattle.rooted_tree.specs.Chain.{depth}
-use Rattle.pivot_rules.specs.Leaving.{WalkTo, walk-none, walk-less, walk-more, walk-keep, walk-end}
+use Rattle.pivot_rules.proofs.Laws.Leaving.{WalkTo, walk-none, walk-less, walk-more, walk-keep, walk-end}
 use Rattle.pivot_rules.proofs.leaving.least_flow.Statement.{statement}
 use Rattle.pivot_rules.proofs.leaving.least_flow.Tie as tie
 

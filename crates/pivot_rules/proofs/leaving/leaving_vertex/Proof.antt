@@ -1,5 +1,5 @@
 use native.Mathlib.Omega.{arith}
-use Rattle.pivot_rules.specs.Leaving.{leaves-s, leaves-t}
+use Rattle.pivot_rules.proofs.Laws.Leaving.{leaves-s, leaves-t}
 use Rattle.pivot_rules.proofs.leaving.leaving_vertex.Statement.{statement}
 use Rattle.pivot_rules.proofs.leaving.leaving_vertex.Tie as tie
 

@@ -4,9 +4,10 @@ use mathlib.Core.Path.{_≡_, sym}
 use native.Mathlib.Omega.{arith}
 use lib.Dec.{ltb}
 use borrow.Author.Tests.{lt-ltb, le-ltb}
-use Rattle.arithmetic.specs.Bools.{all, all-none, all-more, all-fails, all-end}
+use Rattle.arithmetic.specs.Bools.{all}
+use Rattle.arithmetic.proofs.Laws.Bools.{all-none, all-more, all-fails, all-end}
 use Rattle.arithmetic.specs.Table.{at}
-use Rattle.shortest_paths.specs.Weight.{unreached}
+use Rattle.shortest_paths.specs.Steps.Weight.{unreached}
 use Rattle.shortest_paths.proofs.labels.all_reached.Statement.{statement}
 use Rattle.shortest_paths.proofs.labels.all_reached.Tie as tie
 

@@ -1,7 +1,7 @@
 use Prim.Native.Nat.{_≤_, _-_}
 use native.Mathlib.Omega.{arith}
 use lib.ListN.{length-set}
-use Rattle.shortest_paths.proofs.Labelling.{ClearedTo, cleared-none, cleared-more, cleared-end}
+use Rattle.shortest_paths.proofs.Laws.Labelling.{ClearedTo, cleared-none, cleared-more, cleared-end}
 use Rattle.shortest_paths.proofs.labels.clear.Statement.{statement}
 use Rattle.shortest_paths.proofs.labels.clear.Tie as tie
 

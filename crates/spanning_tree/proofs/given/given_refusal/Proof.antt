@@ -1,10 +1,10 @@
 use mathlib.Core.Path.{sym, _∙_}
 use native.Mathlib.Omega.{arith}
 use borrow.Author.Needs.{needs}
-use Rattle.arithmetic.specs.Refusal.{refusals}
-use Rattle.graph.specs.Accepted.{vertices-in, graph-passed, graph-numbered}
-use Rattle.tree_checks.specs.Totals.{measures-numbered}
-use Rattle.spanning_tree.specs.GivenLaws.{tables-in, edges-accepted, given-refused}
+use Rattle.arithmetic.proofs.Laws.Refusal.{refusals}
+use Rattle.graph.proofs.Laws.Accepted.{vertices-in, graph-passed, graph-numbered}
+use Rattle.measures.proofs.Laws.Totals.{measures-numbered}
+use Rattle.spanning_tree.proofs.Laws.Given.{tables-in, given-refused}
 use Rattle.spanning_tree.proofs.given.given_refusal.Statement.{statement}
 use Rattle.spanning_tree.proofs.given.given_refusal.Tie as tie
 
@@ -34,7 +34,7 @@ tree-refusal-requires c κs =
     let p = graph-passed _ _ (sym (k .check .ensures .number) ∙ (search)) in
     let l = tables-in _ _ _ _ _ (sym (t .tables-fit .ensures) ∙ p .1) in
     let v = vertices-in _ (p .0 .vertices) in
-    ((v .1, (omega arith, omega (arith, s .pre))), edges-accepted (p .0))
+    ((v .1, (omega arith, omega (arith, s .pre))), (p .0 .lists, p .0 .edges))
 
 returns-3 : tie.Need-returns-3
 returns-3 c =
@@ -48,22 +48,6 @@ returns-3 c =
 
 pub given-refusal-spec : {M : Type 1} → statement M
 given-refusal-spec =
-    tie.close
-    (tie.spec
-    (λ c κs. search needs)
-    (λ c κs. search needs)
-    (λ c. search needs)
-    (λ c. search needs)
-    (λ c. search needs)
-    returns
-    measures-refusal-requires
-    (λ c. search needs)
-    (λ c. search needs)
-    (λ c. search needs)
-    returns-2
-    tree-refusal-requires
-    (λ c. search needs)
-    (λ c. search needs)
-    (λ c. search needs)
-    (λ c. search needs)
-    returns-3)
+    tie.close (tie.spec (λ c κs. search needs) (λ c κs. search needs) (λ c. search needs) (λ c. search needs) returns
+    measures-refusal-requires (λ c. search needs) (λ c. search needs) returns-2 tree-refusal-requires (λ c. search needs)
+    (λ c. search needs) (λ c. search needs) returns-3)

@@ -3,13 +3,13 @@ use native.Mathlib.Omega.{arith}
 use borrow.Author.Count.{below-more}
 use borrow.Author.Tests.{not-true, not-false}
 use Rattle.arithmetic.specs.Table.{at}
-use Rattle.tree_checks.specs.Chains.{Reaches}
-use Rattle.tree_checks.proofs.ChainWalk.{all-reach, one-misses}
+use Rattle.rooted_tree.specs.Steps.Rooted.{ReachesRoot}
+use Rattle.tree_checks.proofs.Laws.ChainWalk.{all-reach, one-misses}
 use Rattle.tree_checks.proofs.chains.chains_reach.Statement.{statement}
 use Rattle.tree_checks.proofs.chains.chains_reach.Tie as tie
 
 abbrev Inv-loop : tie.InvT-loop
-Inv-loop n root parents x₀ x = (x ≤ n) × ((z : ℕ) → z < x → Reaches root (at parents) z)
+Inv-loop n root parents x₀ x = (x ≤ n) × ((z : ℕ) → z < x → ReachesRoot root (at parents) z)
 
 abbrev μ-loop : tie.MeasureT-loop
 μ-loop n root parents x₀ x = n - x
@@ -31,14 +31,5 @@ returns-2 c = all-reach (c .before .before .before .pre .1) (c .before .loop .x)
 
 pub chains-reach-spec : {M : Type 1} → statement M
 chains-reach-spec =
-    tie.close
-    (tie.spec
-    Inv-loop
-    μ-loop
-    loop-holds
-    reaches-requires
-    returns
-    (λ c. omega arith)
-    (λ c. omega arith)
-    loop-again
+    tie.close (tie.spec Inv-loop μ-loop loop-holds reaches-requires returns (λ c. omega arith) (λ c. omega arith) loop-again
     returns-2)

@@ -1,7 +1,7 @@
 use Prim.Native.Nat.{_-_}
 use native.Mathlib.Omega.{arith}
 use Rattle.arithmetic.specs.Table.{at}
-use Rattle.tree_checks.proofs.ChainWalk.{Climbed, climbed-none, climbed-more, stopped, stopped-root, ended}
+use Rattle.tree_checks.proofs.Laws.ChainWalk.{Climbed, climbed-none, climbed-more, stopped, stopped-root, ended}
 use Rattle.tree_checks.proofs.chains.reaches.Statement.{statement}
 use Rattle.tree_checks.proofs.chains.reaches.Tie as tie
 
@@ -31,17 +31,5 @@ returns-3 c = let s = c .before in ended (s .before .pre .1 .0) _ _ _ (s .loop .
 
 pub reaches-spec : {M : Type 1} → statement M
 reaches-spec =
-    tie.close
-    (tie.spec
-    Inv-loop
-    μ-loop
-    loop-holds
-    returns
-    returns-2
-    (λ c. omega arith)
-    (λ c. omega arith)
-    cast-y
-    (λ c. omega arith)
-    (λ c. omega arith)
-    loop-again
-    returns-3)
+    tie.close (tie.spec Inv-loop μ-loop loop-holds returns returns-2 (λ c. omega arith) (λ c. omega arith) cast-y
+    (λ c. omega arith) (λ c. omega arith) loop-again returns-3)

@@ -5,9 +5,10 @@ use mathlib.Core.Bool.{true, _||_}
 use mathlib.Core.Logic.{⊎-elim, inl, inr}
 use lib.Dec.{eqb}
 use borrow.Author.Tests.{not-true, not-false}
-use Rattle.arithmetic.specs.Bools.{all, all-none}
+use Rattle.arithmetic.specs.Bools.{all}
+use Rattle.arithmetic.proofs.Laws.Bools.{all-none}
 use Rattle.graph.specs.Checks.{marked}
-use Rattle.tree_checks.proofs.Edges.{mark-more, mark-fails}
+use Rattle.tree_checks.proofs.Laws.Edges.{mark-more, mark-fails}
 use Rattle.tree_checks.proofs.checks.all_joined.Statement.{statement}
 use Rattle.tree_checks.proofs.checks.all_joined.Tie as tie
 
@@ -31,14 +32,5 @@ returns-2 c = let e : c .before .loop .x ≡ c .before .before .args .n = omega 
 
 pub all-joined-spec : {M : Type 1} → statement M
 all-joined-spec =
-    tie.close
-    (tie.spec
-    Inv-loop
-    μ-loop
-    loop-holds
-    (λ c. omega arith)
-    returns
-    (λ c. omega arith)
-    (λ c. omega arith)
-    loop-again
+    tie.close (tie.spec Inv-loop μ-loop loop-holds (λ c. omega arith) returns (λ c. omega arith) (λ c. omega arith) loop-again
     returns-2)

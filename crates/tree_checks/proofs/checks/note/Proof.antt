@@ -1,34 +1,16 @@
 use native.Mathlib.Omega.{arith}
 use lib.ListN.{length-set}
-use Rattle.tree_checks.proofs.Edges.{noted-yes, noted-no}
+use Rattle.tree_checks.proofs.Laws.Edges.{noted-yes, noted-no}
 use Rattle.tree_checks.proofs.checks.note.Statement.{statement}
 use Rattle.tree_checks.proofs.checks.note.Tie as tie
 
-same-length : tie.Need-same-length
-same-length c = simp length-set
-
-same-length-2 : tie.Need-same-length-2
-same-length-2 c = simp length-set
-
 returns : tie.Need-returns
-returns c = noted-yes _ _ _ _ _ _ (c .before .if1 .taken) (omega arith) (omega arith)
+returns c = noted-yes _ _ _ _ _ _ (c .if1 .taken) (omega arith) (omega arith)
 
 returns-2 : tie.Need-returns-2
 returns-2 c = noted-no _ _ _ _ _ _ (c .if1 .left)
 
 pub note-spec : {M : Type 1} → statement M
 note-spec =
-    tie.close
-    (tie.spec
-    (λ c. omega arith)
-    (λ c. omega arith)
-    (λ c. omega arith)
-    (λ c. omega arith)
-    (λ c. omega arith)
-    (λ c. omega arith)
-    (λ c. omega arith)
-    (λ c. omega arith)
-    same-length
-    same-length-2
-    returns
-    returns-2)
+    tie.close (tie.spec (λ c. omega arith) (λ c. omega arith) (λ c. omega arith) (λ c. omega arith) (λ c. omega arith)
+    (λ c. simp length-set) (λ c. simp length-set) returns returns-2)

@@ -4,7 +4,7 @@ use native.Mathlib.Omega.{arith}
 use borrow.Author.Count.{below-more}
 use mathlib.Core.Logic.{⊎-elim}
 use Rattle.arithmetic.specs.Table.{at}
-use Rattle.tree_checks.specs.TreeTests.{parents-hold, parents-fail}
+use Rattle.tree_checks.proofs.Laws.TreeTests.{parents-hold, parents-fail}
 use Rattle.tree_checks.proofs.checks.parents_ok.Statement.{statement}
 use Rattle.tree_checks.proofs.checks.parents_ok.Tie as tie
 
@@ -50,22 +50,5 @@ returns-5 c =
 
 pub parents-ok-spec : {M : Type 1} → statement M
 parents-ok-spec =
-    tie.close
-    (tie.spec
-    Inv-loop
-    μ-loop
-    returns
-    (λ c. omega arith)
-    (λ c. omega arith)
-    cast-if2
-    returns-2
-    loop-holds
-    (λ c. omega arith)
-    (λ c. omega arith)
-    cast-y
-    returns-3
-    returns-4
-    (λ c. omega arith)
-    (λ c. omega arith)
-    loop-again
-    returns-5)
+    tie.close (tie.spec Inv-loop μ-loop returns (λ c. omega arith) (λ c. omega arith) cast-if2 returns-2 loop-holds
+    (λ c. omega arith) (λ c. omega arith) cast-y returns-3 returns-4 (λ c. omega arith) (λ c. omega arith) loop-again returns-5)

@@ -1,36 +1,27 @@
-use Prim.Native.Nat.{_-_, _≤_}
-use mathlib.Core.Path.{_≡_, refl}
+use Prim.Native.Nat.{_-_}
+use mathlib.Core.Path.{refl}
 use native.Mathlib.Omega.{arith}
-use Rattle.tree_walks.specs.Walk.{Filled, filled-none, filled-more}
+use Rattle.arithmetic.specs.Steps.Fill.{Filling}
+use Rattle.arithmetic.proofs.Laws.Fill.{filling-none, filling-more, filled-end}
 use Rattle.tree_walks.proofs.walk.clear.Statement.{statement}
 use Rattle.tree_walks.proofs.walk.clear.Tie as tie
 
 abbrev Inv-loop : tie.InvT-loop
-Inv-loop n out₀ x₀ out x = (x ≤ n) × Filled x (λ _. 0) out₀ out
+Inv-loop n out₀ x₀ out x = Filling n (λ _. 0) out₀ out x
 
 abbrev μ-loop : tie.MeasureT-loop
 μ-loop n out₀ x₀ out x = n - x
 
 loop-holds : tie.Need-loop-holds Inv-loop μ-loop
-loop-holds c = (omega arith, filled-none _ _)
+loop-holds c = filling-none _ _ (omega arith)
 
 loop-again : tie.Need-loop-again Inv-loop μ-loop
-loop-again c = (omega arith, filled-more _ _ _ _ _ (omega arith) (c .before .loop .inv .1) refl)
+loop-again c = filling-more (c .before .loop .inv) (omega arith) refl
 
 returns : tie.Need-returns Inv-loop μ-loop
-returns c = let e : c .before .loop .x ≡ c .before .before .args .n = omega arith in rw e at (c .before .loop .inv .1)
+returns c = filled-end (c .before .loop .inv) (omega arith)
 
 pub clear-spec : {M : Type 1} → statement M
 clear-spec =
-    tie.close
-    (tie.spec
-    Inv-loop
-    μ-loop
-    loop-holds
-    (λ c. omega arith)
-    (λ c. omega arith)
-    (λ c. omega arith)
-    (λ c. omega arith)
-    loop-again
-    (λ c. omega arith)
-    returns)
+    tie.close (tie.spec Inv-loop μ-loop loop-holds (λ c. omega arith) (λ c. omega arith) (λ c. omega arith) (λ c. omega arith)
+    loop-again (λ c. omega arith) returns)

@@ -1,4 +1,4 @@
-use Rattle.arithmetic.specs.Mask.{shl-one}
+use Rattle.arithmetic.proofs.Laws.Mask.{shl-one}
 use borrow.Author.Needs.{needs}
 use Rattle.tree_walks.proofs.walk.mark.Statement.{statement}
 use Rattle.tree_walks.proofs.walk.mark.Tie as tie
@@ -8,12 +8,5 @@ returns c = rw (shl-one (c .before .args .y) (c .before .pre .1))
 
 pub mark-spec : {M : Type 1} → statement M
 mark-spec =
-    tie.close
-    (tie.spec
-    (λ c. search needs)
-    (λ c. search needs)
-    (λ c. search needs)
-    (λ c. search needs)
-    (λ c. search needs)
-    (λ c. search needs)
-    returns)
+    tie.close (tie.spec (λ c. search needs) (λ c. search needs) (λ c. search needs) (λ c. search needs) (λ c. search needs)
+    (λ c. search needs) returns)

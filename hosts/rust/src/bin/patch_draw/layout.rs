@@ -1,9 +1,9 @@
 //! Where to draw the vertices, and the faces between the edges.
 
+use weight_mover::Edge;
+
 /// A point of the drawing, x to the right and y down.
 pub type Point = (f64, f64);
-
-type Edge = (u8, u8, u16);
 
 /// Places for the vertices of a connected graph, so that their distances in the drawing are near those in
 /// the graph: classical scaling first, then stress majorization.
@@ -24,12 +24,12 @@ pub fn places(n: usize, edges: &[Edge]) -> Vec<Point> {
 
 /// Distances in the graph, with lengths drawn towards their median: none so short that vertices collide.
 fn distances(n: usize, edges: &[Edge]) -> Vec<f64> {
-    let mut lengths: Vec<u16> = edges.iter().map(|e| e.2).collect();
+    let mut lengths: Vec<u32> = edges.iter().map(|e| e.length).collect();
     lengths.sort_unstable();
     let median = f64::from(lengths[lengths.len() / 2]).max(1.0);
     let mut d = vec![f64::INFINITY; n * n];
-    for &(a, b, length) in edges {
-        let (a, b) = (usize::from(a), usize::from(b));
+    for &Edge { a, b, length } in edges {
+        let (a, b) = (a as usize, b as usize);
         let length = (f64::from(length) / median).clamp(0.5, 2.5);
         d[a * n + b] = length;
         d[b * n + a] = length;
@@ -96,7 +96,7 @@ fn majorize(i: usize, n: usize, places: &[Point], wanted: &[f64]) -> Point {
 
 /// The bounded faces of the drawing, none if two edges cross.
 pub fn faces(places: &[Point], edges: &[Edge]) -> Vec<Vec<usize>> {
-    let pairs: Vec<(usize, usize)> = edges.iter().map(|e| (e.0.into(), e.1.into())).collect();
+    let pairs: Vec<(usize, usize)> = edges.iter().map(|e| (e.a as usize, e.b as usize)).collect();
     if pairs.iter().any(|&p| pairs.iter().any(|&q| cross(places, p, q))) {
         return Vec::new();
     }
@@ -150,10 +150,11 @@ fn cross(places: &[Point], p: (usize, usize), q: (usize, usize)) -> bool {
 #[cfg(test)]
 mod tests {
     use super::{faces, places};
+    use weight_mover::Edge;
 
     #[test]
     fn a_line_is_drawn_straight() {
-        let line = places(3, &[(0, 1, 10), (1, 2, 10)]);
+        let line = places(3, &[(0, 1, 10), (1, 2, 10)].map(Edge::from));
         assert!(line.iter().all(|p| p.1.abs() < 1e-3));
         assert!(((line[0].0 - line[2].0).abs() - 2.0).abs() < 1e-3);
     }
@@ -161,11 +162,11 @@ mod tests {
     #[test]
     fn bounded_faces() {
         let square = [(0.0, 0.0), (1.0, 0.0), (1.0, 1.0), (0.0, 1.0)];
-        let ring = [(0, 1, 1), (0, 3, 1), (1, 2, 1), (2, 3, 1)];
+        let ring = [(0, 1, 1), (0, 3, 1), (1, 2, 1), (2, 3, 1)].map(Edge::from);
         assert_eq!(faces(&square, &ring).len(), 1);
-        let one_diagonal = [(0, 1, 1), (0, 2, 1), (0, 3, 1), (1, 2, 1), (2, 3, 1)];
+        let one_diagonal = [(0, 1, 1), (0, 2, 1), (0, 3, 1), (1, 2, 1), (2, 3, 1)].map(Edge::from);
         assert_eq!(faces(&square, &one_diagonal).len(), 2);
-        let crossing = [(0, 1, 1), (0, 2, 1), (0, 3, 1), (1, 2, 1), (1, 3, 1), (2, 3, 1)];
+        let crossing = [(0, 1, 1), (0, 2, 1), (0, 3, 1), (1, 2, 1), (1, 3, 1), (2, 3, 1)].map(Edge::from);
         assert_eq!(faces(&square, &crossing).len(), 0);
     }
 }

@@ -3,7 +3,7 @@
 use crate::layout::{faces, places, Point};
 use std::fmt::Write;
 use weight_mover::text::Drawing;
-use weight_mover::Answer;
+use weight_mover::{Answer, Edge};
 
 const WIDTH: f64 = 1240.0;
 const MARGIN: f64 = 32.0;
@@ -34,7 +34,7 @@ struct View<'a> {
     answer: &'a Answer,
     points: Vec<Point>,
     faces: &'a [Vec<usize>],
-    edges: &'a [(u8, u8, u16)],
+    edges: &'a [Edge],
     /// Radius of the greatest amount.
     radius: f64,
     /// The greatest amount on a vertex, before or after.
@@ -46,7 +46,7 @@ struct View<'a> {
 /// Draws the patch and its answer.
 pub fn svg(drawing: &Drawing, answer: &Answer) -> String {
     let n = answer.vertices();
-    let edges = drawing.patch.sorted_edges();
+    let edges: Vec<Edge> = drawing.patch.graph().iter().collect();
     let places = match drawing.places.as_slice() {
         [] => places(n, &edges),
         given => given.to_vec(),
@@ -74,7 +74,7 @@ pub fn svg(drawing: &Drawing, answer: &Answer) -> String {
             points,
             faces: &faces,
             edges: &edges,
-            heaviest: f64::from(*mu.iter().chain(nu).max().unwrap_or(&1)).max(1.0),
+            heaviest: *mu.iter().chain(nu).max().unwrap_or(&1).max(&1) as f64,
             labels: labels && n <= FEW,
         }
     };
@@ -123,14 +123,14 @@ pub fn svg(drawing: &Drawing, answer: &Answer) -> String {
     out
 }
 
-fn header(out: &mut String, drawing: &Drawing, answer: &Answer, edges: &[(u8, u8, u16)]) {
+fn header(out: &mut String, drawing: &Drawing, answer: &Answer, edges: &[Edge]) {
     let title = match drawing.title.as_str() {
         "" => "A patch",
         title => title,
     };
-    let kind = match drawing.patch.has_tree() {
-        true => "given tree",
-        false => "best answer",
+    let kind = match drawing.patch.given_tree() {
+        Some(_) => "given tree",
+        None => "best answer",
     };
     let facts = format!(
         "{kind}: cost {}, {}, {}, {}",
@@ -183,8 +183,8 @@ impl View<'_> {
             let _ = writeln!(out, "<polygon points=\"{}\" fill=\"{SKIN}\"/>", corners.join(" "));
         }
         let mut path = String::new();
-        for &(a, b, _) in self.edges {
-            let (p, q) = (self.points[usize::from(a)], self.points[usize::from(b)]);
+        for edge in self.edges {
+            let (p, q) = ends(&self.points, edge);
             let _ = write!(path, "M{} L{} ", pair(p), pair(q));
         }
         let thin = if self.labels { 1.6 } else { 1.0 };
@@ -204,8 +204,8 @@ impl View<'_> {
         self.mesh(out);
         let (mu, nu) = self.drawing.patch.measures();
         for (x, &p) in self.points.iter().enumerate() {
-            disc(out, p, self.size(f64::from(mu[x])), &colour(0.0), 0.85);
-            ring(out, p, self.size(f64::from(nu[x])), &colour(1.0));
+            disc(out, p, self.size(mu[x] as f64), &colour(0.0), 0.85);
+            ring(out, p, self.size(nu[x] as f64), &colour(1.0));
         }
         let moves: Vec<_> = self.answer.entries().filter(|e| e.0 != e.1).collect();
         let most = moves.iter().map(|e| e.2).max().unwrap_or(1);
@@ -217,8 +217,8 @@ impl View<'_> {
         }
         if self.labels {
             for (x, &(px, py)) in self.points.iter().enumerate() {
-                let amounts = format!("{} \u{2192} {}", grouped(mu[x].into()), grouped(nu[x].into()));
-                let size = self.size(f64::from(mu[x].max(nu[x]))).max(10.0);
+                let amounts = format!("{} \u{2192} {}", grouped(mu[x]), grouped(nu[x]));
+                let size = self.size(mu[x].max(nu[x]) as f64).max(10.0);
                 plate(out, (px, py + size + 15.0), 12.0, &amounts);
                 number(out, (px, py), x);
             }
@@ -280,11 +280,11 @@ impl View<'_> {
     fn tree(&self, out: &mut String) {
         self.mesh(out);
         let n = self.points.len();
-        let root = usize::from(self.answer.root);
-        let flow = self.flow();
+        let root = self.answer.root;
+        let flow = self.answer.flow();
         let most = flow.iter().map(|f| f.unsigned_abs()).max().unwrap_or(0).max(1);
         for (x, &carried) in flow.iter().enumerate().filter(|&(x, _)| x != root) {
-            let up = usize::from(self.answer.parents[x]);
+            let up = self.answer.parents[x] as usize;
             let (p, q) = if carried >= 0 { (x, up) } else { (up, x) };
             let share = (carried.unsigned_abs() as f64 / most as f64).sqrt();
             self.channel(out, self.points[p], self.points[q], share, carried != 0);
@@ -316,10 +316,10 @@ impl View<'_> {
             text(out, (px, py + 4.0), 12.0, tone, "middle", 600, &name);
         }
         if self.labels && self.edges.len() <= 24 {
-            for &(a, b, length) in self.edges {
-                let (p, q) = (self.points[usize::from(a)], self.points[usize::from(b)]);
+            for edge in self.edges {
+                let (p, q) = ends(&self.points, edge);
                 let at = ((p.0 + q.0) / 2.0, (p.1 + q.1) / 2.0 + 4.0);
-                plate(out, at, 12.0, &grouped(length.into()));
+                plate(out, at, 12.0, &grouped(edge.length.into()));
             }
         }
     }
@@ -350,22 +350,6 @@ impl View<'_> {
                 pair((back.0 + uy * head * 0.8, back.1 - ux * head * 0.8)),
             );
         }
-    }
-
-    /// What goes up from each vertex to its parent; less than 0 where it comes down.
-    fn flow(&self) -> Vec<i64> {
-        let mut flow = vec![0; self.points.len()];
-        let parents = &self.answer.parents;
-        for (from, to, amount) in self.answer.entries() {
-            for step in self.answer.tree_path(from, to).windows(2) {
-                if usize::from(parents[step[0]]) == step[1] && step[0] != usize::from(self.answer.root) {
-                    flow[step[0]] += i64::from(amount);
-                } else {
-                    flow[step[1]] -= i64::from(amount);
-                }
-            }
-        }
-        flow
     }
 
     /// Where everything is at a time from 0 to 1, each part of the plan on its path in the tree.
@@ -405,6 +389,11 @@ fn along(path: &[usize], points: &[Point], time: f64) -> Point {
     points[path[path.len() - 1]]
 }
 
+/// Where the two ends of an edge are drawn.
+fn ends(points: &[Point], edge: &Edge) -> (Point, Point) {
+    (points[edge.a as usize], points[edge.b as usize])
+}
+
 fn bounds(points: &[Point]) -> (Point, Point) {
     let far = f64::INFINITY;
     points.iter().fold(((far, far), (-far, -far)), |(low, high), p| {
@@ -438,9 +427,9 @@ fn fit(places: &[Point], panel: &Panel, border: f64) -> Vec<Point> {
 }
 
 /// A radius for the greatest amount, so that neighbours hardly overlap.
-fn radius(points: &[Point], edges: &[(u8, u8, u16)]) -> f64 {
-    let length = |&(a, b, _): &(u8, u8, u16)| {
-        let (p, q) = (points[usize::from(a)], points[usize::from(b)]);
+fn radius(points: &[Point], edges: &[Edge]) -> f64 {
+    let length = |edge: &Edge| {
+        let (p, q) = ends(points, edge);
         (p.0 - q.0).hypot(p.1 - q.1)
     };
     let mut lengths: Vec<f64> = edges.iter().map(length).collect();

@@ -1,25 +1,32 @@
-use mathlib.Core.Path.{_≡_, sym, _∙_}
+use mathlib.Core.Path.{_≡_, _∙_}
 use native.Mathlib.Omega.{arith}
 use borrow.Author.Needs.{needs}
-use borrow.Author.Tests.{not-true, not-false}
 use lib.ListN.{length}
-use Rattle.spanning_tree.proofs.Known.{known-say, known-rooted, depth-unknown, depth-known}
+use Rattle.arithmetic.proofs.Laws.Bools.{cond-true, cond-false}
+use Rattle.arithmetic.proofs.Laws.Refusal.{test-held, test-failed}
+use Rattle.spanning_tree.specs.Tree.{depthOf}
+use Rattle.spanning_tree.proofs.Laws.Valid.{valid-say}
 use Rattle.spanning_tree.proofs.tree.Tree.depth.Statement.{statement}
 use Rattle.spanning_tree.proofs.tree.Tree.depth.Tie as tie
 
 returns : tie.Need-returns
-returns c = depth-unknown _ _ _ _ (sym (c .before .knows .ensures) ∙ not-true _ (c .if1 .taken))
+unfolding depthOf
+returns c = cond-false _ _ _ (test-failed _ _ (c .before .is-valid .ensures) (c .if1 .taken))
 
 slice-aggregate-depth-of : tie.Need-slice-aggregate-depth-of
 slice-aggregate-depth-of c = search needs
 
 depth-of-requires : tie.Need-depth-of-requires
-depth-of-requires c κs = let e : 64 ≡ length (c .before .before .before .before .args .self .parents) = slice-aggregate-depth-of c in let k = known-say _ _ _ _ (sym (c .before .before .before .knows .ensures) ∙ not-false _ (c .before .before .if1 .left)) in ((omega arith, (omega arith, omega arith)), known-rooted _ _ _ _ k)
+depth-of-requires c κs =
+    let s : tie.Start = search in
+    let v : tie.Else1 = search in
+    let e : 64 ≡ length (s .args .self .parents) = slice-aggregate-depth-of c in
+    let k = valid-say _ _ _ _ (test-held _ _ (v .before .is-valid .ensures) (v .if1 .left)) in
+    ((omega arith, (omega arith, omega arith)), k .tree)
 
 returns-2 : tie.Need-returns-2
-returns-2 c = c .depth-of .ensures ∙ depth-known _ _ _ _ (sym (c .before .before .before .before .knows .ensures) ∙ not-false _ (c .before .before .before .if1 .left))
+unfolding depthOf
+returns-2 c = let v : tie.Else1 = search in c .depth-of .ensures ∙ cond-true _ _ _ (test-held _ _ (v .before .is-valid .ensures) (v .if1 .left))
 
 pub depth-spec : {M : Type 1} → statement M
-depth-spec =
-    tie.close
-    (tie.spec (λ c κs. search needs) returns slice-aggregate-depth-of depth-of-requires returns-2)
+depth-spec = tie.close (tie.spec (λ c κs. search needs) returns slice-aggregate-depth-of depth-of-requires returns-2)

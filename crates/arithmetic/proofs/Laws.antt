@@ -1,0 +1,9 @@
+pub mod Bools
+pub mod Table
+pub mod Fill
+pub mod Product
+pub mod Sum
+pub mod Integer
+pub mod Mask
+pub mod Matrix
+pub mod Refusal

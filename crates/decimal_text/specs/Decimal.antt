@@ -1,0 +1,14 @@
+-- Numbers in base ten.
+use Prim.Native.Nat.{ℕ, zero, suc, _+_, _/_, _%_}
+use mathlib.Core.Bool.{cond}
+use mathlib.Core.List.{List, [], _∷_, _++_}
+use lib.Dec.{ltb}
+
+-- x in base ten, of at most k digits, without leading zeros
+unfoldable pub digits : ℕ → ℕ → List ℕ
+digits zero x = []
+digits (suc k) x = cond (ltb x 10) ((48 + x) ∷ []) (digits k (x / 10) ++ ((48 + x % 10) ∷ []))
+
+-- any number of 64 bits
+abbrev pub decimal : ℕ → List ℕ
+decimal x = digits 20 x

@@ -1,0 +1,3 @@
+pub mod DistanceCases
+pub mod FloydWarshall
+pub mod RecordCases

@@ -1,0 +1,2 @@
+pub mod FloydWarshall
+pub mod Records

@@ -1,0 +1,4 @@
+pub mod PlanDuality
+pub mod Best
+pub mod Agree
+pub mod BestCost

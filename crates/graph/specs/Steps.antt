@@ -1,0 +1,3 @@
+pub mod Accepted
+pub mod Path
+pub mod EdgeTree

@@ -1,0 +1,150 @@
+// Every call for hosts in C: the calls of the crates below under exported names, each further result written through a reference.
+ghost use mathlib.Core.Path.{_≡_};
+ghost use Rattle.graph.specs.Graph.{graph};
+ghost use Rattle.distances.specs.Distances.{distancesRefusal, distancesTable};
+ghost use Rattle.spanning_tree.specs.Given.{given};
+ghost use Rattle.tree_evaluation.specs.Evaluate.{Evaluated};
+ghost use Rattle.optimal_transport.specs.Solve.{Solved};
+ghost use Rattle.optimality_test.specs.OptimalityTest.{OptimalityTested};
+ghost use Rattle.image_reader.specs.Read.{Read, lists};
+ghost use Rattle.weight_mover.specs.Run.{Ran};
+
+pub mod records;
+pub mod tree;
+
+// Fills the first n × n places of `out` with the distances, row i from place i × n.
+#[no_mangle]
+pub extern "C" fn mover_distances(
+    n: usize,
+    a: &[u32],
+    b: &[u32],
+    lengths: &[u32],
+    out: &mut [u32],
+) -> u32
+    ensures { λ r. ⌜ (r ≡ distancesRefusal (graph n (now (a .entry)) (now (b .entry)) (now (lengths .entry))) (now (out .entry)))
+        × (now (out .exit) ≡ distancesTable (graph n (now (a .entry)) (now (b .entry)) (now (lengths .entry))) (now (out .entry))) ⌝ }
+{
+    distances::distances(n, a, b, lengths, out)
+}
+
+// Evaluates a given tree: fills in its imbalances, its potential and its plan.
+#[no_mangle]
+pub extern "C" fn mover_evaluate(
+    n: usize,
+    a: &[u32],
+    b: &[u32],
+    lengths: &[u32],
+    mu: &[u64],
+    nu: &[u64],
+    root: usize,
+    parents: &[u32],
+    imbalance: &mut [i32],
+    potential: &mut [i32],
+    plan: &mut [u32],
+    cost: &mut u64,
+    moves: &mut u32,
+) -> u32
+    ensures { λ r. ⌜ Evaluated (graph n (now (a .entry)) (now (b .entry)) (now (lengths .entry)))
+        (given (now (mu .entry)) (now (nu .entry)) root (now (parents .entry)))
+        (now (imbalance .entry)) (now (potential .entry)) (now (plan .entry)) r (now (cost .exit)) (now (moves .exit))
+        (now (imbalance .exit)) (now (potential .exit)) (now (plan .exit)) ⌝ }
+{
+    let evaluation = tree_evaluation::evaluate(
+        n,
+        a,
+        b,
+        lengths,
+        mu,
+        nu,
+        root,
+        parents,
+        imbalance,
+        potential,
+        plan,
+    );
+    *cost = evaluation.cost;
+    *moves = evaluation.moves;
+    evaluation.refusal
+}
+
+// Judges a given tree: 1 where no spanning tree costs less.
+#[no_mangle]
+pub extern "C" fn mover_is_optimal(
+    n: usize,
+    a: &[u32],
+    b: &[u32],
+    lengths: &[u32],
+    mu: &[u64],
+    nu: &[u64],
+    root: usize,
+    parents: &[u32],
+    optimal: &mut u32,
+) -> u32
+    ensures { λ r. ⌜ OptimalityTested (graph n (now (a .entry)) (now (b .entry)) (now (lengths .entry)))
+        (given (now (mu .entry)) (now (nu .entry)) root (now (parents .entry))) r (now (optimal .exit)) ⌝ }
+{
+    let tested = optimality_test::is_optimal(n, a, b, lengths, mu, nu, root, parents);
+    *optimal = tested.optimal;
+    tested.refusal
+}
+
+// The best answer: fills in a best tree with root 0, its potential and its plan.
+#[no_mangle]
+pub extern "C" fn mover_solve(
+    n: usize,
+    a: &[u32],
+    b: &[u32],
+    lengths: &[u32],
+    mu: &[u64],
+    nu: &[u64],
+    parents: &mut [u32],
+    potential: &mut [i32],
+    plan: &mut [u32],
+    cost: &mut u64,
+    moves: &mut u32,
+) -> u32
+    ensures { λ r. ⌜ Solved (graph n (now (a .entry)) (now (b .entry)) (now (lengths .entry))) (now (mu .entry)) (now (nu .entry))
+        (now (parents .entry)) (now (potential .entry)) (now (plan .entry)) r (now (cost .exit)) (now (moves .exit))
+        (now (parents .exit)) (now (potential .exit)) (now (plan .exit)) ⌝ }
+{
+    let solution = optimal_transport::solve(n, a, b, lengths, mu, nu, parents, potential, plan);
+    *cost = solution.cost;
+    *moves = solution.moves;
+    solution.refusal
+}
+
+// Reads an image into lent lists: all of them, or none after a refusal.
+#[no_mangle]
+pub extern "C" fn mover_read(
+    image: &[u8],
+    a: &mut [u32],
+    b: &mut [u32],
+    lengths: &mut [u32],
+    mu: &mut [u64],
+    nu: &mut [u64],
+    parents: &mut [u32],
+    n: &mut usize,
+    m: &mut usize,
+    root: &mut usize,
+    tree: &mut u32,
+) -> u32
+    ensures { λ r. ⌜ Read (now (image .entry))
+        (lists (now (a .entry)) (now (b .entry)) (now (lengths .entry)) (now (mu .entry)) (now (nu .entry)) (now (parents .entry)))
+        r (now (n .exit)) (now (m .exit)) (now (root .exit)) (now (tree .exit))
+        (lists (now (a .exit)) (now (b .exit)) (now (lengths .exit)) (now (mu .exit)) (now (nu .exit)) (now (parents .exit))) ⌝ }
+{
+    let reading = image_reader::read(image, a, b, lengths, mu, nu, parents);
+    *n = reading.n;
+    *m = reading.m;
+    *root = reading.root;
+    *tree = reading.tree;
+    reading.refusal
+}
+
+// Answers an image by its record: 0, or a refusal number and the buffer as it came.
+#[no_mangle]
+pub extern "C" fn mover_run(image: &[u8], buffer: &mut [u8]) -> u32
+    ensures { λ r. ⌜ Ran (now (image .entry)) (now (buffer .entry)) r (now (buffer .exit)) ⌝ }
+{
+    weight_mover::mover_run(image, buffer)
+}

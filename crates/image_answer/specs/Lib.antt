@@ -1,0 +1,2 @@
+pub mod ImageAnswer
+pub mod Steps

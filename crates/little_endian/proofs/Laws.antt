@@ -1,0 +1,4 @@
+pub mod Signed
+pub mod Buffer
+pub mod Placed
+pub mod Byte

@@ -1,0 +1,27 @@
+// Two machine numbers: the smaller, how far they are apart, and their difference.
+ghost use mathlib.Core.Path.{_≡_};
+ghost use Prim.Native.Nat.{_^_, _<_, min};
+ghost use lib.IntN.{subℕ};
+ghost use Rattle.arithmetic.specs.Steps.Product.{gap};
+
+// the smaller of a and b
+pub fn smaller(a: u32, b: u32) -> u32
+    ensures { λ r. ⌜ r ≡ min a b ⌝ }
+{
+    if a < b { a } else { b }
+}
+
+// |a − b|
+pub fn gap(a: u64, b: u64) -> u64
+    ensures { λ r. ⌜ r ≡ gap a b ⌝ }
+{
+    if a < b { b - a } else { a - b }
+}
+
+// a − b
+pub fn difference(a: u64, b: u64) -> i32
+    requires { ⌜ (a < 2 ^ 31) × (b < 2 ^ 31) ⌝ }
+    ensures { λ r. ⌜ r ≡ subℕ a b ⌝ }
+{
+    a as i32 - b as i32
+}

@@ -1,0 +1,2 @@
+pub mod BestTree
+pub mod Solve

@@ -1,0 +1,2 @@
+pub mod OptimalityTest
+pub mod Steps

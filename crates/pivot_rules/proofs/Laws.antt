@@ -1,0 +1,4 @@
+pub mod Candidates
+pub mod Entering
+pub mod Join
+pub mod Leaving

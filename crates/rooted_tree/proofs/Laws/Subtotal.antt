@@ -1,0 +1,70 @@
+-- The mass of a subtree, and summation by parts on a tree.
+use mathlib.Core.Path.{_≡_, sym, ap, _∙_}
+use mathlib.Core.Bool.{Bool, true, false, not}
+use Prim.Native.Nat.{ℕ, _+_, _*_, _≤_, _<_}
+use native.Mathlib.Nat.{mul-comm, mul-zero, mul-add}
+use native.Mathlib.Omega.{arith}
+use lib.Dec.{eqb}
+use borrow.Author.Tests.{ne-eqb}
+use Rattle.arithmetic.specs.Sum.{pick, sum}
+use Rattle.arithmetic.proofs.Laws.Bools.{case≡, eqb-self}
+use Rattle.arithmetic.proofs.Laws.Sum.{pick-le, pick-mul, sum-ext, sum-le, sum-add, sum-mul, sum-swap}
+use Rattle.rooted_tree.specs.Chain.{below}
+use Rattle.rooted_tree.specs.Steps.Rooted.{Rooted, above}
+use Rattle.rooted_tree.specs.Steps.Subtotal.{subtotal, inner}
+use Rattle.rooted_tree.proofs.Laws.Rooted.{tree-ind, all-b, above-root, above-step}
+
+-- what holds its value at every vertex but the root
+pub inner-ext : (n r : ℕ) (f g : ℕ → ℕ) → ((x : ℕ) → x < n → (x ≡ r → ⊥) → f x ≡ g x) → (x : ℕ) → x < n → inner r x (f x) ≡ inner r x (g x)
+inner-ext n r f g h x l = case≡ x r (λ e. rw (e, eqb-self r)) (λ d. rw (h x l d))
+
+-- it is at most the total
+pub subtotal-le : (p : ℕ → ℕ) (n : ℕ) (m : ℕ → ℕ) (x : ℕ) → subtotal p n m x ≤ sum n m
+unfolding subtotal
+subtotal-le p n m x = sum-le n _ m (λ y l. pick-le (below p n y x) (m y))
+
+module _ {n r : ℕ} {p : ℕ → ℕ} (t : Rooted n r p) where
+  -- the root's subtotal is the total
+  pub subtotal-root : (m : ℕ → ℕ) → subtotal p n m r ≡ sum n m
+  unfolding subtotal
+  subtotal-root m = sum-ext n _ _ (λ y l. rw (all-b t y l))
+
+  module _ (U : ℕ → ℕ) where
+    up : ℕ → ℕ
+    up x = inner r x (U (p x))
+
+    -- the sum of U over the vertices above y is that of U at their parents, and U at y
+    telescope : (y : ℕ) → y < n → above p n U y ≡ above p n up y + U y
+    telescope =
+        tree-ind t (λ y. above p n U y ≡ above p n up y + U y)
+        (let z : up r ≡ 0 = unfold up in rw (eqb-self r) in omega (arith, above-root t U, above-root t up, z))
+        (λ y l d h.
+        let z : up y ≡ U (p y) = unfold up in rw (ne-eqb y r d) in
+        omega (arith, h, z, above-step t U y l d, above-step t up y l d))
+
+  pick-swap : (b : Bool) (w m : ℕ) → w * pick b m ≡ m * pick b w
+  pick-swap true w m = mul-comm w m
+  pick-swap false w m = mul-zero w ∙ sym (mul-zero m)
+
+  -- weights against subtotals: each mass times the weights above it
+  subtotals-above : (w m : ℕ → ℕ) → sum n (λ x. w x * subtotal p n m x) ≡ sum n (λ y. m y * above p n w y)
+  unfolding subtotal
+  subtotals-above w m =
+      sum-ext n _ _ (λ x l. sym (sum-mul n (w x) (λ y. pick (below p n y x) (m y))))
+      ∙ sum-swap n n (λ x y. w x * pick (below p n y x) (m y))
+      ∙ sum-ext n _ _ (λ y l. sum-ext n _ _ (λ x k. pick-swap (below p n y x) (w x) (m y))
+      ∙ sum-mul n (m y) (λ x. pick (below p n y x) (w x)))
+
+  parents : (U m : ℕ → ℕ) → sum n (λ x. up U x * subtotal p n m x) ≡ sum n (λ x. inner r x (U (p x) * subtotal p n m x))
+  unfolding up
+  parents U m = sum-ext n _ _ (λ x l. pick-mul (not (eqb x r)) (U (p x)) (subtotal p n m x))
+
+  pub by-parts : (U m : ℕ → ℕ) → sum n (λ x. U x * subtotal p n m x)
+      ≡ sum n (λ x. inner r x (U (p x) * subtotal p n m x)) + sum n (λ y. U y * m y)
+  by-parts U m =
+      subtotals-above U m
+      ∙ sum-ext n _ (λ y. m y * above p n (up U) y + U y * m y) (λ y l.
+      ap (λ (s : ℕ). m y * s) (telescope U y l) ∙ mul-add (m y) (above p n (up U) y) (U y)
+      ∙ ap (λ (s : ℕ). m y * above p n (up U) y + s) (mul-comm (m y) (U y)))
+      ∙ sum-add n (λ y. m y * above p n (up U) y) (λ y. U y * m y)
+      ∙ ap (λ (s : ℕ). s + sum n (λ y. U y * m y)) (sym (subtotals-above (up U) m) ∙ parents U m)

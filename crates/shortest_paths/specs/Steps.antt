@@ -1,0 +1,4 @@
+pub mod Weight
+pub mod ShortestPathTree
+pub mod Labels
+pub mod Checked

@@ -1,0 +1,3 @@
+pub mod TreeValue
+pub mod Valid
+pub mod Given

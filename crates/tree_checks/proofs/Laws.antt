@@ -1,0 +1,3 @@
+pub mod TreeTests
+pub mod ChainWalk
+pub mod Edges

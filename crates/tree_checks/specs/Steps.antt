@@ -1,0 +1,2 @@
+pub mod TreeTests
+pub mod ParentEdges

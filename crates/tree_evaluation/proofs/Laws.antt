@@ -1,0 +1,2 @@
+pub mod GivenTree
+pub mod Evaluate

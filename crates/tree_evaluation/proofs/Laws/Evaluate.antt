@@ -1,0 +1,114 @@
+-- The call that evaluates a given tree: what evaluating an accepted tree gives, and how the call ends.
+use Prim.Native.Nat.{ℕ, _*_, _≤_}
+use mathlib.Core.Path.{_≡_, sym, ap, _∙_}
+use mathlib.Core.List.{List, _++_}
+use native.Mathlib.Omega.{arith}
+use lib.IntN.{ℤ, pos, subℕ}
+use lib.ListN.{length, drop, getD}
+use Rattle.arithmetic.specs.Table.{at, tab, matrix}
+use Rattle.arithmetic.specs.Steps.Fill.{Filled}
+use Rattle.arithmetic.proofs.Laws.Table.{length-tab, length-rows, front-at, front-length, result-refused, written-refused}
+use Rattle.rooted_tree.specs.Steps.Rooted.{Rooted}
+use Rattle.rooted_tree.specs.Steps.Subtotal.{subtotal}
+use Rattle.graph.specs.Graph.{Graph, graph}
+use Rattle.spanning_tree.specs.TreeValue.{parentsHeld}
+use Rattle.spanning_tree.specs.Given.{Given, answersOk}
+use Rattle.spanning_tree.specs.Steps.Given.{GivenChecked}
+use Rattle.spanning_tree.proofs.Laws.Given.{GivenAccepted, given-passed, given-accepted, room-in}
+use Rattle.plan_rule.specs.Plan.{plan, moves}
+use Rattle.tree_figures.specs.Figures.{imbalance, potential}
+use Rattle.tree_figures.specs.Steps.Tables.{Short, LengthsTo, Moderate, costFrom, potentialFrom}
+use Rattle.tree_figures.proofs.Laws.Figure.{imbalance-moderate, imbalance-table, cost-table, potential-table}
+use Rattle.tree_evaluation.specs.Evaluate.{evaluateRefusal, Evaluated}
+use Rattle.tree_evaluation.specs.Steps.EvaluateTree.{Evaluable, TreeEvaluated}
+use Rattle.tree_evaluation.proofs.Laws.GivenTree.{given-evaluable, given-value, given-same}
+
+-- ---- an accepted tree
+
+-- its value follows from the lengths l to the parents and the masses a and b of mu and nu below each vertex
+module _ (g : Graph) (r : ℕ) (p mu nu l : ℕ → ℕ) (lengths : LengthsTo g r p l) where
+  pub tree-evaluated : {a a' b b' : List ℕ} {imbalances imbalances' : List ℤ} {entries entries' : List ℕ} {cost moved : ℕ}
+      → Filled (g .n) (subtotal p (g .n) mu) a a' → Filled (g .n) (subtotal p (g .n) nu) b b'
+      → imbalances' ≡ tab (g .n) (λ x. subℕ (at a' x) (at b' x)) ++ drop (g .n) imbalances
+      → cost ≡ costFrom (g .n) r l (at a') (at b')
+      → (entries' ≡ matrix (g .n) (plan (g .n) r p mu nu) ++ drop (g .n * g .n) entries) × (moved ≡ moves (g .n) (plan (g .n) r p mu nu))
+      → TreeEvaluated g r p mu nu imbalances entries cost moved imbalances' entries'
+  tree-evaluated {a} {a'} {b} {b'} {imbalances} m v i c e = record {
+    cost-is = c ∙ cost-table g r p mu nu l lengths (at a') (at b') (m .each) (v .each);
+    moves-are = e .1;
+    imbalance-is =
+        i ∙ ap (λ (z : List ℤ). z ++ drop (g .n) imbalances) (imbalance-table g r p mu nu l lengths (at a') (at b') (m .each) (v .each));
+    plan-is = e .0;
+  }
+
+  -- and so does its potential, from the imbalances
+  pub potential-from : (imbalances potentials : List ℤ) {imbalances' potentials' : List ℤ}
+      → imbalances' ≡ tab (g .n) (imbalance (g .n) p mu nu) ++ drop (g .n) imbalances
+      → potentials' ≡ tab (g .n) (potentialFrom (g .n) r p l (λ x. getD imbalances' x (pos 0))) ++ drop (g .n) potentials
+      → potentials' ≡ tab (g .n) (potential g r p mu nu) ++ drop (g .n) potentials
+  potential-from imbalances potentials {imbalances'} i u =
+      u ∙ ap (λ (z : List ℤ). z ++ drop (g .n) potentials)
+      (potential-table g r p mu nu l lengths (λ x. getD imbalances' x (pos 0)) (λ x h. rw i (front-at (g .n) (imbalance (g .n) p mu nu) imbalances (pos 0) x h)))
+
+-- ---- how the call ends
+module _ {g : Graph} {w : Given} (imbalances potentials : List ℤ) (entries : List ℕ) {k : ℕ} {above above' first edge : List ℕ}
+    (checked : GivenChecked g w (answersOk (g .n) (length imbalances) (length potentials) (length entries)) k above above' first edge) where
+  pub evaluate-refused : (k ≡ 0 → ⊥) → Evaluated g w imbalances potentials entries k 0 0 imbalances potentials entries
+  unfolding evaluateRefusal
+  evaluate-refused d = record {
+    refusal = checked .number;
+    cost-is = result-refused k _ d;
+    moves-are = result-refused k _ d;
+    imbalance-is = written-refused k _ imbalances d;
+    potential-is = written-refused k _ potentials d;
+    plan-is = written-refused k _ entries d;
+  }
+
+-- nothing is refused: the tree by value; u is the room for its potential
+module _ {g : Graph} {w : Given} (imbalances : List ℤ) (u : ℕ) (entries : List ℕ) {k : ℕ} {above above' first edge : List ℕ}
+    (checked : GivenChecked g w (answersOk (g .n) (length imbalances) u (length entries)) k above above' first edge) (z : k ≡ 0)
+    {n r : ℕ} {parents : List ℕ} (held : (n ≡ g .n) × ((r ≡ w .root) × (parents ≡ parentsHeld (g .n) (w .parents)))) where
+  accepted : GivenAccepted g w
+  accepted = given-accepted checked z
+
+  rooms : (g .n ≤ length imbalances) × ((g .n ≤ u) × (g .n * g .n ≤ length entries))
+  rooms = room-in (g .n) _ _ _ (given-passed g w _ (sym (checked .number) ∙ z) .1)
+
+  pub evaluable : 64 ≤ length above → Evaluable n r parents above' (w .mu) (w .nu) imbalances entries
+  evaluable long = given-evaluable accepted (checked .lengths z) held long (rooms .0) (rooms .1 .1)
+
+  module _ {cost moved : ℕ} {imbalances' : List ℤ} {entries' : List ℕ}
+      (promise : LengthsTo (graph n (g .lower) (g .upper) (g .lengths)) r (at parents) (at above')
+      → TreeEvaluated (graph n (g .lower) (g .upper) (g .lengths)) r (at parents) (at (w .mu)) (at (w .nu))
+      imbalances entries cost moved imbalances' entries') where
+    value : TreeEvaluated g (w .root) (at (w .parents)) (at (w .mu)) (at (w .nu)) imbalances entries cost moved imbalances' entries'
+    value = given-value accepted (checked .lengths z) held promise
+
+    pub potential-asked : 64 ≤ length above
+        → ((n ≤ 64) × (n ≤ u)) × (((n ≤ length parents) × ((n ≤ length above') × (n ≤ length imbalances')))
+        × (Rooted n r (at parents) × (Short n r (at above') × Moderate n imbalances')))
+    potential-asked room =
+        let e = evaluable room in
+        let kept = ap length (value .imbalance-is) ∙ front-length (g .n) _ imbalances (rooms .0) in
+        let long : length parents ≡ 64 = ap length (held .1 .1) ∙ length-tab 64 _ in
+        let moderate : Moderate n imbalances'
+        = λ x l.
+        rw (value .imbalance-is, front-at (g .n) (imbalance (g .n) (at (w .parents)) (at (w .mu)) (at (w .nu))) imbalances (pos 0) x (omega (arith, held .0)))
+        (imbalance-moderate (g .n) (at (w .parents)) (at (w .mu)) (at (w .nu)) x (omega (arith, accepted .total-mu)) (omega (arith, accepted .total-nu))) in
+        ((e .few, omega (arith, rooms .1 .0, held .0)), ((omega (arith, e .few, long), (e .long-above, omega (arith, e .room-imbalance, kept))), (e .tree, (e .short, moderate))))
+
+    pub evaluate-done : {potentials potentials' : List ℤ} → u ≡ length potentials
+        → potentials' ≡ tab n (potentialFrom n r (at parents) (at above') (λ x. getD imbalances' x (pos 0))) ++ drop n potentials
+        → Evaluated g w imbalances potentials entries 0 cost moved imbalances' potentials' entries'
+    unfolding evaluateRefusal
+    evaluate-done {potentials} e written = record {
+      refusal = sym z ∙ (rw e at (checked .number));
+      cost-is = value .cost-is;
+      moves-are = value .moves-are;
+      imbalance-is = rw length-tab (value .imbalance-is);
+      potential-is =
+          rw length-tab
+          (potential-from g (w .root) (at (w .parents)) (at (w .mu)) (at (w .nu)) (at above') (checked .lengths z .each)
+          imbalances potentials (value .imbalance-is) (rw (held .0, held .1 .0, given-same accepted (checked .lengths z) held) at written));
+      plan-is = rw length-rows (value .plan-is);
+    }

@@ -1,0 +1,74 @@
+-- A given tree that checks 1 to 10 accept, by value, can be evaluated, and what is promised of it holds of the lists that were lent.
+use Prim.Native.Nat.{ℕ, _*_, _≤_}
+use mathlib.Core.Path.{_≡_, sym, ap, _∙_}
+use mathlib.Core.List.{List}
+use native.Mathlib.Omega.{arith}
+use lib.IntN.{ℤ}
+use lib.ListN.{length}
+use Rattle.arithmetic.specs.Table.{at}
+use Rattle.rooted_tree.specs.Steps.Rooted.{Rooted}
+use Rattle.graph.specs.Graph.{Graph, graph, edgeLength}
+use Rattle.graph.proofs.Laws.Accepted.{vertices-in}
+use Rattle.graph.proofs.Laws.Edge.{edgeLength-most}
+use Rattle.tree_checks.specs.Steps.ParentEdges.{Lengths}
+use Rattle.tree_checks.proofs.Laws.TreeTests.{spanning-rooted}
+use Rattle.spanning_tree.specs.TreeValue.{parentsHeld}
+use Rattle.spanning_tree.specs.Given.{Given}
+use Rattle.spanning_tree.proofs.Laws.TreeValue.{held-same}
+use Rattle.spanning_tree.proofs.Laws.Given.{GivenAccepted}
+use Rattle.tree_figures.specs.Figures.{treeCost}
+use Rattle.tree_figures.specs.Steps.Tables.{Short, LengthsTo}
+use Rattle.tree_evaluation.specs.Steps.EvaluateTree.{Evaluable, TreeEvaluated}
+
+module _ {g : Graph} {w : Given} (accepted : GivenAccepted g w) {above above' : List ℕ} (sized : Lengths g (w .root) (at (w .parents)) above above')
+    {n r : ℕ} {parents : List ℕ} (held : (n ≡ g .n) × ((r ≡ w .root) × (parents ≡ parentsHeld (g .n) (w .parents)))) where
+  few : g .n ≤ 64
+  few = vertices-in (g .n) (accepted .graph .vertices) .1
+
+  pub given-same : at parents ≡ at (w .parents)
+  given-same = ap at (held .1 .1) ∙ held-same (g .n) (w .parents) few (accepted .long-parents)
+
+  pub given-rooted : Rooted n r (at parents)
+  given-rooted = rw (held .0, held .1 .0, given-same) (spanning-rooted g (w .root) (at (w .parents)) (accepted .graph .edges) (accepted .tree))
+
+  pub given-short : Short n r (at above')
+  given-short x l d = omega (
+    arith,
+    sized .each x (omega (arith, held .0)) (omega (arith, held .1 .0)),
+    edgeLength-most g (accepted .graph .edges) (accepted .graph .lengths) x (at (w .parents) x),
+  )
+
+  pub given-evaluable : 64 ≤ length above → {imbalances : List ℤ} {entries : List ℕ} → g .n ≤ length imbalances → g .n * g .n ≤ length entries
+      → Evaluable n r parents above' (w .mu) (w .nu) imbalances entries
+  given-evaluable long i e = record {
+    few = omega (arith, few, held .0);
+    tree = given-rooted;
+    long-above = omega (arith, few, held .0, sized .size);
+    short = given-short;
+    measures = record {
+      long-mu = omega (arith, held .0, accepted .long-mu);
+      long-nu = omega (arith, held .0, accepted .long-nu);
+      total-mu = rw (held .0) (accepted .total-mu);
+      total-nu = rw (held .0) (accepted .total-nu);
+    };
+    room-imbalance = omega (arith, i, held .0);
+    room-plan = rw (held .0) e;
+  }
+
+  lengths : LengthsTo (graph n (g .lower) (g .upper) (g .lengths)) r (at parents) (at above')
+  lengths x l d =
+      rw (held .0)
+      (sized .each x (omega (arith, held .0)) (omega (arith, held .1 .0)) ∙ ap (edgeLength g x) (sym (ap (λ (f : ℕ → ℕ). f x) given-same)))
+
+  pub given-value : {imbalances imbalances' : List ℤ} {entries entries' : List ℕ} {cost moved : ℕ}
+      → (LengthsTo (graph n (g .lower) (g .upper) (g .lengths)) r (at parents) (at above')
+      → TreeEvaluated (graph n (g .lower) (g .upper) (g .lengths)) r (at parents) (at (w .mu)) (at (w .nu))
+      imbalances entries cost moved imbalances' entries')
+      → TreeEvaluated g (w .root) (at (w .parents)) (at (w .mu)) (at (w .nu)) imbalances entries cost moved imbalances' entries'
+  given-value promise = rw (held .0, held .1 .0, given-same) at (promise lengths)
+
+  pub given-cost : {cost : ℕ}
+      → (LengthsTo (graph n (g .lower) (g .upper) (g .lengths)) r (at parents) (at above')
+      → cost ≡ treeCost (graph n (g .lower) (g .upper) (g .lengths)) r (at parents) (at (w .mu)) (at (w .nu)))
+      → cost ≡ treeCost g (w .root) (at (w .parents)) (at (w .mu)) (at (w .nu))
+  given-cost promise = rw (held .0, held .1 .0, given-same) at (promise lengths)

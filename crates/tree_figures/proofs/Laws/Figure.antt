@@ -1,0 +1,121 @@
+-- The figures of a tree in natural numbers: the imbalance is a difference of two sums, the cost is that of the flow, and the potential is what
+-- it rises by above a vertex less what it falls by. So they follow from tables.
+use Prim.Native.Nat.{ℕ, _+_, _*_, _^_, _≤_, _<_}
+use mathlib.Core.Path.{_≡_, refl, sym, ap, _∙_}
+use mathlib.Core.Bool.{Bool, true, false, not, _&&_}
+use native.Mathlib.Nat.{mul-le-mul, mul-le-mul-right}
+use native.Mathlib.Omega.{arith}
+use lib.Dec.{eqb}
+use lib.Signed.{mag}
+use lib.IntN.{ℤ, pos, negsuc, natAbs, subℕ, _*ℤ_}
+use Rattle.arithmetic.specs.Sum.{pick, sum}
+use Rattle.arithmetic.specs.Table.{tab}
+use Rattle.arithmetic.specs.Integer.{pickℤ}
+use Rattle.arithmetic.specs.Steps.Product.{gap}
+use Rattle.arithmetic.proofs.Laws.Bools.{case≡, eqb-self}
+use Rattle.arithmetic.proofs.Laws.Sum.{pick-le, sum-nil, sum-step, sum-ext, sum-le-mul}
+use Rattle.arithmetic.proofs.Laws.Table.{tab-ext}
+use Rattle.arithmetic.proofs.Laws.Integer.{abs-sub, mag-sub-lt, sumℤ-ext, sumℤ-sub, pickℤ-sub, sub-zero, zero-sub}
+use Rattle.rooted_tree.specs.Chain.{below}
+use Rattle.rooted_tree.specs.Steps.Subtotal.{subtotal, inner}
+use Rattle.rooted_tree.specs.Steps.Flow.{flowCost}
+use Rattle.rooted_tree.specs.Steps.Potential.{lengthsWhere}
+use Rattle.rooted_tree.proofs.Laws.Subtotal.{subtotal-le, inner-ext}
+use Rattle.rooted_tree.proofs.Laws.Climb.{Climbing, climbed-ext}
+use Rattle.rooted_tree.proofs.Laws.Potential.{lengths-most}
+use Rattle.graph.specs.Graph.{Graph}
+use Rattle.tree_walks.specs.Steps.Sums.{Within}
+use Rattle.tree_figures.specs.Figures.{imbalance, sign, toParent, potential, treeCost}
+use Rattle.tree_figures.specs.Steps.Tables.{Short, LengthsTo, costFrom, rises, falls, potentialFrom}
+
+-- ---- the definitions in natural numbers
+pub imbalance-sub : (n : ℕ) (p mu nu : ℕ → ℕ) (x : ℕ) → imbalance n p mu nu x ≡ subℕ (subtotal p n mu x) (subtotal p n nu x)
+unfolding imbalance subtotal
+imbalance-sub n p mu nu x =
+    sumℤ-ext n _ _ (λ y l. pickℤ-sub (below p n y x) (mu y) (nu y))
+    ∙ sumℤ-sub n (λ y. pick (below p n y x) (mu y)) (λ y. pick (below p n y x) (nu y))
+
+pub treeCost-flow : (g : Graph) (r : ℕ) (p mu nu : ℕ → ℕ) → treeCost g r p mu nu ≡ flowCost (g .n) r p (toParent g p) mu nu
+unfolding treeCost flowCost
+treeCost-flow g r p mu nu =
+    sum-ext (g .n) _ _ (λ x l. ap (λ (z : ℕ). inner r x (toParent g p x * z))
+    (ap natAbs (imbalance-sub (g .n) p mu nu x) ∙ abs-sub (subtotal p (g .n) mu x) (subtotal p (g .n) nu x)))
+
+sign-length : (z : ℤ) (l : ℕ) → sign z *ℤ pos l ≡ subℕ (pick (rises z) l) (pick (falls z) l)
+sign-length (pos k) l = let e : 1 * l ≡ l = omega arith in rw e (sym (sub-zero l))
+sign-length (negsuc k) l = let e : 1 * l ≡ l = omega arith in rw e (sym (zero-sub l))
+
+pickℤ-and : (s t : Bool) (u v : ℕ) → pickℤ (s && t) (subℕ u v) ≡ subℕ (pick t (pick s u)) (pick t (pick s v))
+pickℤ-and true t u v = pickℤ-sub t u v
+pickℤ-and false true u v = refl
+pickℤ-and false false u v = refl
+
+potential-sub : (g : Graph) (r : ℕ) (p mu nu : ℕ → ℕ) (y : ℕ)
+    → potential g r p mu nu y ≡ potentialFrom (g .n) r p (toParent g p) (imbalance (g .n) p mu nu) y
+unfolding potential
+potential-sub g r p mu nu y =
+    sumℤ-ext (g .n) _ _ (λ x l.
+    ap (λ (z : ℤ). pickℤ (not (eqb x r) && below p (g .n) y x) z) (sign-length (imbalance (g .n) p mu nu x) (toParent g p x))
+    ∙ pickℤ-and (not (eqb x r)) (below p (g .n) y x) _ _)
+    ∙ sumℤ-sub (g .n) _ _
+
+-- ---- the same from tables
+module _ (g : Graph) (r : ℕ) (p mu nu l : ℕ → ℕ) (lengths : LengthsTo g r p l) where
+  module _ (a b : ℕ → ℕ) (mu-below : (x : ℕ) → x < g .n → a x ≡ subtotal p (g .n) mu x)
+      (nu-below : (x : ℕ) → x < g .n → b x ≡ subtotal p (g .n) nu x) where
+    pub imbalance-table : tab (g .n) (λ x. subℕ (a x) (b x)) ≡ tab (g .n) (imbalance (g .n) p mu nu)
+    imbalance-table = tab-ext (g .n) _ _ (λ x h. rw (mu-below x h, nu-below x h) (sym (imbalance-sub (g .n) p mu nu x)))
+
+    pub cost-table : costFrom (g .n) r l a b ≡ treeCost g r p mu nu
+    unfolding flowCost
+    cost-table =
+        sum-ext (g .n) _ _ (inner-ext (g .n) r _ _ (λ x h d. rw (lengths x h d, mu-below x h, nu-below x h)))
+        ∙ sym (treeCost-flow g r p mu nu)
+
+  pub potential-table : (z : ℕ → ℤ) → ((x : ℕ) → x < g .n → z x ≡ imbalance (g .n) p mu nu x)
+      → tab (g .n) (potentialFrom (g .n) r p l z) ≡ tab (g .n) (potential g r p mu nu)
+  potential-table z are = tab-ext (g .n) _ _ (λ y h. rw (same rises y, same falls y) (sym (potential-sub g r p mu nu y)))
+    where
+      same : (t : ℤ → Bool) (y : ℕ) → lengthsWhere (g .n) r p l (λ x. t (z x)) y
+          ≡ lengthsWhere (g .n) r p (toParent g p) (λ x. t (imbalance (g .n) p mu nu x)) y
+      same t y = climbed-ext (g .n) r p _ _ y (λ x j d. rw (lengths x j d, are x j))
+
+-- ---- the cost, edge by edge
+pub cost-none : (r : ℕ) (l a b : ℕ → ℕ) → 0 ≡ costFrom 0 r l a b
+cost-none r l a b = sym (sum-nil _)
+
+pub cost-more : (k r : ℕ) (l a b : ℕ → ℕ) (cost v : ℕ) → cost ≡ costFrom k r l a b → v ≡ inner r k (l k * gap (a k) (b k))
+    → cost + v ≡ costFrom (k + 1) r l a b
+cost-more k r l a b cost v e f = rw (e, f) (sym (sum-step k _))
+
+-- ---- bounds
+pub imbalance-moderate : (n : ℕ) (p mu nu : ℕ → ℕ) (x : ℕ) → sum n mu < 2 ^ 31 → sum n nu < 2 ^ 31 → mag (imbalance n p mu nu x) < 2 ^ 31
+imbalance-moderate n p mu nu x h k =
+    rw (imbalance-sub n p mu nu x)
+    (mag-sub-lt (subtotal p n mu x) (subtotal p n nu x) (2 ^ 31) (omega (arith, subtotal-le p n mu x)) (omega (arith, subtotal-le p n nu x)))
+
+module _ {n r : ℕ} {l : ℕ → ℕ} (few : n ≤ 64) (short : Short n r l) where
+  -- the lengths that a walk up has met
+  pub climbing-lt : {p : ℕ → ℕ} (test : ℕ → Bool) {y z total : ℕ} → Climbing n r p (λ x. pick (test x) (l x)) y z total → total < 2 ^ 31
+  climbing-lt {p} test {y} w =
+      omega (arith, w .rest, lengths-most n r p l test y (2 ^ 16) (λ x h d. omega (arith, short x h d)), mul-le-mul-right (2 ^ 16) few)
+
+  -- the cost of the first k edges
+  module _ (a b : ℕ → ℕ) (la : Within n a (2 ^ 31)) (lb : Within n b (2 ^ 31)) where
+    edge-cost-lt : (x : ℕ) → x < n → inner r x (l x * gap (a x) (b x)) ≤ 2 ^ 47
+    edge-cost-lt x h =
+        case≡ x r
+        (λ e. rw (e, eqb-self r) (omega arith))
+        (λ d.
+        let i : l x ≤ 2 ^ 16 = omega (arith, short x h d) in
+        let j : gap (a x) (b x) ≤ 2 ^ 31 = omega (arith, la x h, lb x h) in
+        omega (arith, pick-le (not (eqb x r)) (l x * gap (a x) (b x)), mul-le-mul i j))
+
+    pub costs-lt : (k : ℕ) → k ≤ n → costFrom k r l a b < 2 ^ 63
+    costs-lt k h =
+        omega (
+          arith,
+          sum-le-mul k (2 ^ 47) (λ x. inner r x (l x * gap (a x) (b x))) (λ x j. edge-cost-lt x (omega arith)),
+          mul-le-mul-right (2 ^ 47) h,
+          mul-le-mul-right (2 ^ 47) few,
+        )

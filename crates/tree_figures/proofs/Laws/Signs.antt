@@ -1,0 +1,25 @@
+-- The sign of an imbalance, as code compares it.
+use mathlib.Core.Path.{_≡_, refl, ap, _∙_}
+use native.Mathlib.Omega.{arith}
+use lib.IntN.{ℤ, pos, negsuc}
+use lib.Signed.{leZ, ltZ}
+use borrow.Author.Tests.{le-leb, le-ltb}
+use mir.Syntax.{w32}
+use mir.Val.{toZ, ofZ, SFits}
+use mir.ValLaws.{toZ-ofZ}
+use Rattle.tree_figures.specs.Steps.Tables.{rises, falls}
+
+not-negative : (z : ℤ) → leZ (pos 0) z ≡ rises z
+not-negative (pos k) = le-leb 0 k (omega arith)
+not-negative (negsuc k) = refl
+
+negative : (z : ℤ) → ltZ z (pos 0) ≡ falls z
+negative (pos k) = le-ltb k 0 (omega arith)
+negative (negsuc k) = refl
+
+module _ (z : ℤ) (fits : SFits w32 z) where
+  pub rises-is : leZ (pos 0) (toZ w32 (ofZ w32 z)) ≡ rises z
+  rises-is = ap (leZ (pos 0)) (toZ-ofZ w32 z fits) ∙ not-negative z
+
+  pub falls-is : ltZ (toZ w32 (ofZ w32 z)) (pos 0) ≡ falls z
+  falls-is = ap (λ (y : ℤ). ltZ y (pos 0)) (toZ-ofZ w32 z fits) ∙ negative z

@@ -1,0 +1,9 @@
+pub mod Pivot
+pub mod PathReversal
+pub mod PivotCost
+pub mod PathWalk
+pub mod PivotTables
+pub mod PivotPotential
+pub mod PivotTotals
+pub mod SubtreeMasks
+pub mod PivotBasis

@@ -1,0 +1,44 @@
+-- The one theorem on the whole table of cases, by computation on the definitions.
+use Prim.Native.Nat.{ℕ}
+use mathlib.Core.Path.{_≡_, refl}
+use mathlib.Core.Bool.{true, _&&_}
+use mathlib.Core.List.{[], _∷_, flatMap}
+use lib.ListN.{take}
+use lib.IntN.{ℤ}
+use Rattle.arithmetic.specs.Bools.{all, any}
+use Rattle.arithmetic.specs.Sum.{sum}
+use Rattle.arithmetic.specs.Integer.{sumℤ}
+use Rattle.arithmetic.specs.Refusal.{refusal}
+use Rattle.arithmetic.specs.Table.{tab, rows}
+use Rattle.vertex_set.specs.Lowest.{lowest}
+use Rattle.rooted_tree.specs.Chain.{climb, below, depth}
+use Rattle.graph.specs.Graph.{joined, edgeLength}
+use Rattle.graph.specs.Checks.{verticesOk, listsFit, edgeFits, lengthFits, reached, connected, sizeChecks, edgeChecks}
+use Rattle.tree_checks.specs.Checks.{parentsOk, treeEdgesOk, chainsOk, treeChecks}
+use Rattle.measures.specs.Checks.{totalOk, totalsEqual, measureChecks}
+use Rattle.spanning_tree.specs.Given.{tablesOk, answersOk}
+use Rattle.plan_rule.specs.Plan.{moved, matched, layer, layers, plan, moves}
+use Rattle.tree_figures.specs.Figures.{imbalance, potential, treeCost}
+use Rattle.duality.specs.BestCost.{least, tables, costs, bestCost}
+use Rattle.transport_problem.specs.Checks.{measuresLong}
+use Rattle.optimal_transport.specs.Solve.{solveRefusal}
+use Rattle.little_endian.specs.LittleEndian.{two, byteOf}
+use Rattle.image.specs.Image.{sizeOk, sectionOk, layoutOk}
+use Rattle.image.specs.ImageChecks.{imageChecks}
+use Rattle.host_record.specs.Record.{recordBytes}
+use Rattle.image_reader.specs.Read.{roomOk}
+use Rattle.image_answer.specs.ImageAnswer.{answerRefusal}
+use Rattle.weight_mover.specs.Run.{answerRecord, evaluatedRecord}
+use Rattle.decimal_text.specs.Decimal.{digits}
+use Rattle.listing.specs.Listing.{entryLine, rowLines, planLines, listing, evaluatedListing}
+use Rattle.worked_cases.specs.Figures.{sames, certifies, holds, reads, every}
+use Rattle.worked_cases.specs.Cases.{image-b, cases, images}
+
+pub cases-hold : every holds cases && every reads images ≡ true
+unfolding all any sum sumℤ tab rows climb below depth joined edgeLength refusal verticesOk listsFit edgeFits lengthFits reached connected sizeChecks edgeChecks totalOk totalsEqual parentsOk treeEdgesOk chainsOk measureChecks treeChecks tablesOk answersOk imbalance potential treeCost flatMap least tables costs bestCost measuresLong solveRefusal lowest moved layer layers plan moves two sizeOk sectionOk layoutOk roomOk imageChecks byteOf recordBytes answerRefusal evaluatedRecord digits entryLine rowLines planLines evaluatedListing listing sames certifies holds reads every cases images matched
+cases-hold = refl
+
+-- the record of B's image without a tree begins with the best cost, whichever tree and potential come back
+pub image-b-cost : (p : ℕ → ℕ) (u : ℕ → ℤ) → take 8 (answerRecord (image-b .image) p u) ≡ 4 ∷ 0 ∷ 0 ∷ 0 ∷ 0 ∷ 0 ∷ 0 ∷ 0 ∷ []
+unfolding all any sum sumℤ tab rows climb below joined edgeLength refusal treeChecks parentsOk treeEdgesOk chainsOk imbalance treeCost flatMap least tables costs bestCost two byteOf recordBytes
+image-b-cost p u = refl

@@ -1,0 +1,259 @@
+"""What the tests hold the library to: definitions written out, and random patches."""
+
+import random
+import struct
+from typing import Dict, List, NamedTuple, Set, Tuple
+
+from weight_mover import Answer, Edge, Entry
+
+
+class Problem(NamedTuple):
+    """A patch with its paintings."""
+
+    edges: List[Edge]
+    mu: List[int]
+    nu: List[int]
+
+    @property
+    def n(self) -> int:
+        return len(self.mu)
+
+    @property
+    def difference(self) -> List[int]:
+        return [before - after for before, after in zip(self.mu, self.nu)]
+
+    def pairs(self) -> Dict[Tuple[int, int], int]:
+        """The length of each edge, by its ends both ways."""
+        return {pair: c for a, b, c in self.edges for pair in ((a, b), (b, a))}
+
+
+# ---- The definitions, written out
+
+
+class Weighed(NamedTuple):
+    """What weighing a tree gives."""
+
+    imbalance: List[int]
+    potential: List[int]
+    cost: int
+    table: List[List[int]]
+
+
+def chain(parents: List[int], y: int) -> List[int]:
+    """The vertices met going from y up, the root last."""
+    met = [y]
+    while parents[met[-1]] != met[-1]:
+        met.append(parents[met[-1]])
+        if len(met) > len(parents):
+            raise ValueError("a chain misses the root")
+    return met
+
+
+def weigh(problem: Problem, parents: List[int]) -> Weighed:
+    """Imbalance, potential, cost and plan of a tree."""
+    n, lengths = problem.n, problem.pairs()
+    chains = [chain(parents, y) for y in range(n)]
+    below: List[List[int]] = [[] for _ in range(n)]
+    for y, met in enumerate(chains):
+        for x in met:
+            below[x].append(y)
+    difference = problem.difference
+    imbalance = [sum(difference[y] for y in below[x]) for x in range(n)]
+    up = [0 if parents[x] == x else lengths[x, parents[x]] for x in range(n)]
+    slope = [up[x] if imbalance[x] >= 0 else -up[x] for x in range(n)]
+    return Weighed(
+        imbalance,
+        [sum(slope[x] for x in chains[y]) for y in range(n)],
+        sum(up[x] * abs(imbalance[x]) for x in range(n)),
+        plan_of(problem, [len(met) for met in chains], below),
+    )
+
+
+def plan_of(
+    problem: Problem, depths: List[int], below: List[List[int]]
+) -> List[List[int]]:
+    """The plan by the rule: deepest vertices first, then the lowest numbers."""
+    n, residue = problem.n, problem.difference
+    table = [[0] * n for _ in range(n)]
+    for x in range(n):
+        table[x][x] = min(problem.mu[x], problem.nu[x])
+    for x in sorted(range(n), key=lambda x: (-depths[x], x)):
+        while True:
+            giver = next((y for y in below[x] if residue[y] > 0), None)
+            taker = next((y for y in below[x] if residue[y] < 0), None)
+            if giver is None or taker is None:
+                break
+            amount = min(residue[giver], -residue[taker])
+            table[giver][taker] += amount
+            residue[giver] -= amount
+            residue[taker] += amount
+    return table
+
+
+def entries(table: List[List[int]]) -> List[Entry]:
+    places = [(i, j) for i in range(len(table)) for j in range(len(table))]
+    return [(i, j, table[i][j]) for i, j in places if table[i][j] > 0]
+
+
+def moves(table: List[List[int]]) -> int:
+    return sum(1 for i, j, _ in entries(table) if i != j)
+
+
+def is_tree(problem: Problem, root: int, parents: List[int]) -> bool:
+    """Whether it is a spanning tree of the patch."""
+    n, lengths = problem.n, problem.pairs()
+    if len(parents) != n or parents[root] != root:
+        return False
+    if any((x, parents[x]) not in lengths for x in range(n) if x != root):
+        return False
+    try:
+        return all(chain(parents, y)[-1] == root for y in range(n))
+    except ValueError:
+        return False
+
+
+def tree_figures(root: int, parents: List[int]) -> List[Entry]:
+    """Depth, parent and word of each vertex, or 0, 64, 0 if it is no tree."""
+    n = len(parents)
+    none = n * [(0, 64, 0)]
+    if root >= n or parents[root] != root or max(parents) >= n:
+        return none
+    try:
+        chains = [chain(parents, y) for y in range(n)]
+    except ValueError:
+        return none
+    if any(met[-1] != root for met in chains):
+        return none
+    words = [sum(1 << y for y in range(n) if x in chains[y]) for x in range(n)]
+    return [(len(chains[x]) - 1, parents[x], words[x]) for x in range(n)]
+
+
+def faults(problem: Problem, best: Answer, apart: List[List[int]]) -> List[str]:
+    """What does not hold of a best answer, of all that is asked of one."""
+    n, u, table = problem.n, best.potential, best.table
+    if best.root != 0 or not is_tree(problem, 0, best.parents):
+        return ["tree"]
+    weighed = weigh(problem, best.parents)
+    places = [(i, j) for i in range(n) for j in range(n)]
+    holds = {
+        "tree cost": weighed.cost == best.cost,
+        "plan by the rule": weighed.table == table,
+        "plan as a list": entries(table) == best.plan,
+        "moves": moves(table) == best.moves,
+        "rows": [sum(row) for row in table] == problem.mu,
+        "columns": [sum(column) for column in zip(*table)] == problem.nu,
+        "plan cost": sum(table[i][j] * apart[i][j] for i, j in places) == best.cost,
+        "potential at 0": u[0] == 0,
+        "edge": all(abs(u[a] - u[b]) <= c for a, b, c in problem.edges),
+        "worth": sum(map(int.__mul__, u, problem.difference)) == best.cost,
+    }
+    return [name for name, held in holds.items() if not held]
+
+
+# ---- Random patches
+
+
+def pair(a: int, b: int) -> Tuple[int, int]:
+    return min(a, b), max(a, b)
+
+
+def random_edges(draw: random.Random, n: int) -> List[Edge]:
+    """A connected patch: a line, a star, a mesh or anything, numbered at random."""
+    kind = draw.choice(["line", "star", "mesh", "any", "any"])
+    lowest = {"line": n, "mesh": n, "star": 0, "any": 0}[kind]
+    highest = {"star": 0}.get(kind, n)
+    pairs = {
+        (draw.randint(min(lowest, x - 1), min(highest, x - 1)), x) for x in range(1, n)
+    }
+    if kind == "mesh":
+        width = draw.randint(1, n)
+        pairs |= {(x, x + width) for x in range(n - width)}
+    most = min(n * (n - 1) // 2, 512)
+    wanted = min(len(pairs) + draw.choice([0, 1, n // 2, n, 2 * n, most]), most)
+    while len(pairs) < wanted:
+        x = draw.randrange(1, n)
+        pairs.add((draw.randrange(x), x))
+    longest = draw.choice([1, 3, 100, 65_535])
+    number = draw.sample(range(n), n)
+    edges = [(number[a], number[b], draw.randint(1, longest)) for a, b in sorted(pairs)]
+    return draw.sample(edges, len(edges))
+
+
+def random_painting(draw: random.Random, n: int, total: int) -> List[int]:
+    """A total over all vertices, or over few of them."""
+    painting = [0] * n
+    support = draw.sample(range(n), draw.choice([n, draw.randint(1, n)]))
+    cuts = sorted(draw.randint(0, total) for _ in support[1:])
+    for x, low, high in zip(support, [0] + cuts, cuts + [total]):
+        painting[x] = high - low
+    return painting
+
+
+def random_problem(draw: random.Random) -> Problem:
+    """From 1 to 64 vertices, most often few."""
+    n = draw.randint(1, draw.choice([4, 8, 16, 64]))
+    total = draw.choice([0, n, draw.randint(1, 1000), 16_777_216])
+    mu = random_painting(draw, n, total)
+    nu = mu if draw.random() < 0.1 else random_painting(draw, n, total)
+    return Problem(random_edges(draw, n), mu, list(nu))
+
+
+def hang(n: int, pairs: List[Tuple[int, int]], root: int) -> List[int]:
+    """The parents of the tree that the pairs form, from a root."""
+    near: List[List[int]] = [[] for _ in range(n)]
+    for a, b in pairs:
+        near[a].append(b)
+        near[b].append(a)
+    parents, reached = {root: root}, [root]
+    for x in reached:
+        for y in near[x]:
+            if y not in parents:
+                parents[y] = x
+                reached.append(y)
+    return [parents[x] for x in range(n)]
+
+
+def random_tree(draw: random.Random, problem: Problem) -> Tuple[int, List[int]]:
+    """Edges in a random order, each that closes no ring."""
+    root = draw.randrange(problem.n)
+    part, tree = list(range(problem.n)), []
+    for a, b, _ in draw.sample(problem.edges, len(problem.edges)):
+        if part[a] != part[b]:
+            tree.append((a, b))
+            part = [part[a] if x == part[b] else x for x in part]
+    return root, hang(problem.n, tree, root)
+
+
+def pairs_of(parents: List[int]) -> Set[Tuple[int, int]]:
+    return {pair(x, p) for x, p in enumerate(parents) if x != p}
+
+
+def rerooted(draw: random.Random, parents: List[int]) -> Tuple[int, List[int]]:
+    """The same tree under any root."""
+    root = draw.randrange(len(parents))
+    return root, hang(len(parents), sorted(pairs_of(parents)), root)
+
+
+def swapped(
+    draw: random.Random, problem: Problem, parents: List[int]
+) -> Tuple[int, List[int]]:
+    """The tree with one edge changed, if there is another, under any root."""
+    tree = pairs_of(parents)
+    others = [pair(a, b) for a, b, _ in problem.edges if pair(a, b) not in tree]
+    if others:
+        a, b = draw.choice(others)
+        x = draw.choice(sorted(set(chain(parents, a)) ^ set(chain(parents, b))))
+        tree = tree - {pair(x, parents[x])} | {(a, b)}
+    root = draw.randrange(problem.n)
+    return root, hang(problem.n, sorted(tree), root)
+
+
+def spread(draw: random.Random, image: bytes) -> bytes:
+    """The same image with gaps before its sections and after them."""
+    header, body = bytearray(image[:36]), b""
+    for place in range(4, 36, 8):
+        at, length = struct.unpack_from("<II", image, place)
+        body += bytes(draw.randrange(256) for _ in range(draw.randrange(5)))
+        struct.pack_into("<I", header, place, 36 + len(body))
+        body += image[at : at + length]
+    return bytes(header) + body + bytes(draw.randrange(5))

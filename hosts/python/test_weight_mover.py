@@ -1,0 +1,808 @@
+"""Tests of the Python module: marked cases, refusals, inputs, and random patches.
+
+    python3 test_weight_mover.py
+
+Answers on random patches are held to the definitions, which reference.py writes out,
+and, where networkx is installed, to its network simplex and shortest paths. MOVER_CASES
+sets the number of patches, at least 200, and MOVER_SEED repeats a run. The last line is
+"N passed, M failed".
+"""
+
+import array
+import contextlib
+import ctypes
+import dataclasses
+import doctest
+import importlib
+import io
+import os
+import pickle
+import random
+import re
+import struct
+import sys
+import time
+import unittest
+from concurrent.futures import ThreadPoolExecutor
+from typing import Any, Callable, Dict, Iterator, List, NamedTuple, Tuple, Type
+from unittest import mock
+
+import example
+import weight_mover as wm
+from reference import (
+    Problem,
+    entries,
+    faults,
+    moves,
+    random_problem,
+    random_tree,
+    rerooted,
+    spread,
+    swapped,
+    tree_figures,
+    weigh,
+)
+
+
+def optional(name: str) -> Any:
+    """A module that need not be there."""
+    try:
+        return importlib.import_module(name)
+    except ImportError:
+        return None
+
+
+nx, np = optional("networkx"), optional("numpy")
+
+CASES = max(200, int(os.environ.get("MOVER_CASES", 2000)))
+SEED = int(os.environ.get("MOVER_SEED", time.time_ns() // 1000))
+HEADER = os.path.join(os.path.dirname(os.path.abspath(__file__)), "../c/mover.h")
+
+
+def problems(
+    salt: str, count: int = CASES
+) -> Iterator[Tuple[str, random.Random, Problem]]:
+    """Random problems, each with words that name it and its generator."""
+    for index in range(count):
+        draw = random.Random(f"{SEED} {salt} {index}")
+        yield f"seed {SEED}, {salt} {index}", draw, random_problem(draw)
+
+
+# ---- The marked cases
+
+RING = [(0, 1, 1), (0, 3, 1), (1, 2, 1), (2, 3, 1)]
+LINE_OF_6 = [(x, x + 1, 1) for x in range(5)]
+G_PLAN = [(0, 2, 1), (1, 2, 1), (5, 2, 2), (5, 3, 2), (5, 4, 2)]
+FULL = 16_777_216
+
+
+class Case(NamedTuple):
+    """A marked case with a tree; the answer of the tree, and the best cost."""
+
+    problem: Problem
+    root: int
+    parents: List[int]
+    imbalance: List[int]
+    potential: List[int]
+    cost: int
+    plan: List[wm.Entry]
+    best: int
+
+
+# fmt: off
+MARKED = {
+    "A": Case(
+        Problem([(0, 1, 2), (1, 2, 3), (2, 3, 1)], [5, 0, 1, 0], [0, 2, 1, 3]),
+        3, [1, 2, 3, 3], [5, 3, 3, 0], [6, 4, 1, 0], 22,
+        [(0, 1, 2), (0, 3, 3), (2, 2, 1)], 22,
+    ),
+    "B": Case(
+        Problem(RING, [4, 0, 0, 0], [0, 0, 0, 4]),
+        0, [0, 0, 1, 2], [0, -4, -4, -4], [0, -1, -2, -3], 12, [(0, 3, 4)], 4,
+    ),
+    "C": Case(
+        Problem(RING, [1, 1, 1, 1], [1, 1, 1, 1]),
+        0, [0, 0, 1, 2], [0, 0, 0, 0], [0, 1, 2, 3], 0,
+        [(0, 0, 1), (1, 1, 1), (2, 2, 1), (3, 3, 1)], 0,
+    ),
+    "D": Case(
+        Problem([(0, 1, 5), (0, 2, 1), (1, 2, 1)], [3, 0, 0], [0, 3, 0]),
+        0, [0, 0, 0], [0, -3, 0], [0, -5, 1], 15, [(0, 1, 3)], 6,
+    ),
+    "E": Case(Problem([], [7], [7]), 0, [0], [0], [0], 0, [(0, 0, 7)], 0),
+    "F": Case(
+        Problem([(0, 1, 65_535)], [FULL, 0], [0, FULL]),
+        0, [0, 0], [0, -FULL], [0, -65_535], 1_099_494_850_560, [(0, 1, FULL)],
+        1_099_494_850_560,
+    ),
+    "G": Case(
+        Problem(LINE_OF_6, [1, 1, 0, 0, 0, 6], [0, 0, 4, 2, 2, 0]),
+        5, [1, 2, 3, 4, 5, 5], [1, 2, -2, -4, -6, 0], [-1, -2, -3, -2, -1, 0], 15,
+        G_PLAN, 15,
+    ),
+    "H": Case(
+        Problem(LINE_OF_6, [1, 1, 0, 0, 0, 6], [0, 0, 4, 2, 2, 0]),
+        0, [0, 0, 1, 2, 3, 4], [0, -1, -2, 2, 4, 6], [0, -1, -2, -1, 0, 1], 15,
+        G_PLAN, 15,
+    ),
+}
+# fmt: on
+
+
+class MarkedCases(unittest.TestCase):
+    """Cases A to H through each call."""
+
+    def test_evaluate(self) -> None:
+        for name, case in MARKED.items():
+            with self.subTest(name):
+                got = wm.evaluate(*case.problem, case.root, case.parents)
+                self.assertEqual(got.imbalance, case.imbalance)
+                self.assertEqual(got.potential, case.potential)
+                self.assertEqual(got.cost, case.cost)
+                self.assertEqual(got.plan, case.plan)
+                self.assertEqual(entries(got.table), case.plan)
+                self.assertEqual(got.moves, sum(1 for i, j, _ in case.plan if i != j))
+                self.assertEqual((got.root, got.parents), (case.root, case.parents))
+
+    def test_is_optimal(self) -> None:
+        for name, case in MARKED.items():
+            with self.subTest(name):
+                judged = wm.is_optimal(*case.problem, case.root, case.parents)
+                self.assertIs(judged, case.cost == case.best)
+
+    def test_solve(self) -> None:
+        for name, case in MARKED.items():
+            with self.subTest(name):
+                best = wm.solve(*case.problem)
+                self.assertEqual(best.cost, case.best)
+                apart = wm.distances(case.problem.n, case.problem.edges)
+                self.assertEqual(faults(case.problem, best, apart), [])
+                self.assertTrue(wm.is_optimal(*case.problem, 0, best.parents))
+
+    def test_run(self) -> None:
+        for name, case in MARKED.items():
+            with self.subTest(name):
+                got = wm.run(wm.write(*case.problem, case.root, case.parents))
+                wanted = wm.evaluate(*case.problem, case.root, case.parents)
+                for part in dataclasses.fields(wm.Answer):
+                    self.assertEqual(
+                        getattr(got, part.name), getattr(wanted, part.name)
+                    )
+                best = wm.run(wm.write(*case.problem))
+                self.assertEqual(best.cost, case.best)
+                apart = wm.distances(case.problem.n, case.problem.edges)
+                self.assertEqual(faults(case.problem, best, apart), [])
+
+    def test_read(self) -> None:
+        for name, case in MARKED.items():
+            with self.subTest(name):
+                image = wm.write(*case.problem, case.root, case.parents)
+                whole = wm.Patch(case.problem.n, *case.problem, case.root, case.parents)
+                self.assertEqual(wm.read(image), whole)
+                without = dataclasses.replace(whole, root=0, parents=None)
+                self.assertEqual(wm.read(wm.write(*case.problem)), without)
+
+    def test_distances(self) -> None:
+        wanted = {
+            "A": [[0, 2, 5, 6], [2, 0, 3, 4], [5, 3, 0, 1], [6, 4, 1, 0]],
+            "B": [[0, 1, 2, 1], [1, 0, 1, 2], [2, 1, 0, 1], [1, 2, 1, 0]],
+            "D": [[0, 2, 1], [2, 0, 1], [1, 1, 0]],
+            "E": [[0]],
+            "F": [[0, 65_535], [65_535, 0]],
+            "G": [[abs(i - j) for j in range(6)] for i in range(6)],
+        }
+        for name, table in wanted.items():
+            n, edges = MARKED[name].problem.n, MARKED[name].problem.edges
+            self.assertEqual(wm.distances(n, edges), table)
+            self.assertEqual(wm.distances_of_records(n, edges), table)
+
+    def test_tree(self) -> None:
+        tree = wm.Tree(MARKED["A"].root, MARKED["A"].parents)
+        self.assertEqual((tree.n, tree.root, tree.parents), (4, 3, [1, 2, 3, 3]))
+        self.assertEqual([tree.depth(v) for v in range(6)], [3, 2, 1, 0, 0, 0])
+        self.assertEqual([tree.parent(v) for v in range(6)], [1, 2, 3, 3, 64, 64])
+        self.assertEqual([tree.subtree(v) for v in range(6)], [1, 3, 7, 15, 0, 0])
+        self.assertEqual(tree.below(2), [0, 1, 2])
+        self.assertEqual(wm.solve(*MARKED["B"].problem).tree.root, 0)
+        self.assertEqual(tree, wm.Tree(3, (1, 2, 3, 3)))
+        self.assertNotEqual(tree, wm.Tree(0, [0, 0, 1, 2]))
+        for wrong in (wm.Tree(0, []), wm.Tree(0, 65 * [0]), wm.Tree(1, [0, 0])):
+            figures = wrong.depth(1), wrong.parent(1), wrong.subtree(1)
+            self.assertEqual(figures, (0, 64, 0))
+
+
+# ---- Refusals
+
+PATH = [(0, 1, 1), (1, 2, 1)]
+
+
+class Refusals(unittest.TestCase):
+    """Every number, by the example of its check and by others."""
+
+    def refused(self, number: int, call: Callable[..., Any], *arguments: Any) -> None:
+        with self.assertRaises(wm.Refusal) as caught:
+            call(*arguments)
+        self.assertEqual(caught.exception.number, number, (call, arguments))
+
+    def by_all(self, number: int, edges: Any, mu: Any, nu: Any, *tree: Any) -> None:
+        """Refused by all calls that look so far; without a tree, one that would do."""
+        given = tree or (0, [max(x - 1, 0) for x in range(len(mu))])
+        self.refused(number, wm.evaluate, edges, mu, nu, *given)
+        self.refused(number, wm.is_optimal, edges, mu, nu, *given)
+        self.refused(number, wm.run, wm.write(edges, mu, nu, *given))
+        if tree:
+            wm.solve(edges, mu, nu)
+            wm.run(wm.write(edges, mu, nu))
+        else:
+            self.refused(number, wm.solve, edges, mu, nu)
+            self.refused(number, wm.run, wm.write(edges, mu, nu))
+        if number <= 5:
+            self.refused(number, wm.distances, len(mu), edges)
+            self.refused(number, wm.distances_of_records, len(mu), edges)
+        else:
+            wm.distances(len(mu), edges)
+
+    def test_1_vertex_count(self) -> None:
+        self.by_all(1, [], [], [])
+        self.by_all(1, [], 65 * [0], 65 * [0])
+        self.refused(1, wm.distances, 2**64 - 1, [])
+        self.refused(1, wm.solve, [], 10_000 * [0], [])
+        self.refused(1, wm.read, wm.write([], [], []))
+        self.refused(1, wm.read, wm.write([], 65 * [0], 65 * [0]))
+
+    def test_2_table_size(self) -> None:
+        self.refused(2, wm.solve, PATH, [1, 0, 0], [0, 1])
+        self.refused(2, wm.solve, PATH, [1, 0], [0, 0, 1])
+        for call in (wm.evaluate, wm.is_optimal):
+            self.refused(2, call, PATH, [1, 0, 0], [0, 1], 0, [0, 0, 1])
+            self.refused(2, call, PATH, [1, 0, 0], [0, 0, 1], 0, [0, 0])
+            self.refused(2, call, PATH, [1, 0, 0], [0, 0, 1], 0, [0, 0, 1, 2])
+        every = [(a, b, 1) for b in range(33) for a in range(b)]
+        self.assertEqual(len(wm.distances(33, every[:512])), 33)
+        self.refused(2, wm.distances, 33, every[:513])
+        self.refused(2, wm.distances_of_records, 33, every[:513])
+        self.refused(2, wm.solve, every[:513], 33 * [0], 33 * [0])
+        self.refused(2, wm.run, wm.write(every[:513], 33 * [0], 33 * [0]))
+        self.refused(2, wm.read, wm.write(every[:513], 33 * [0], 33 * [0]))
+
+    def test_3_edges(self) -> None:
+        for edges in ([(0, 2, 1)], [(1, 1, 1)], [(0, 1, 1), (1, 0, 2)]):
+            self.by_all(3, edges, [1, 0], [0, 1])
+        image = bytearray(wm.write([(0, 1, 1)], [1, 0], [0, 1]))
+        image[36:38] = 1, 0  # the module turns edges round, so in an image alone
+        self.refused(3, wm.run, image)
+        self.assertEqual(wm.read(image).edges, [(1, 0, 1)])
+
+    def test_4_lengths(self) -> None:
+        self.by_all(4, [(0, 1, 0)], [1, 0], [0, 1])
+        self.refused(4, wm.solve, [(0, 1, 65_536)], [1, 0], [0, 1])
+        self.refused(4, wm.distances, 2, [(0, 1, 2**32 - 1)])
+
+    def test_5_connected(self) -> None:
+        self.by_all(5, [(0, 1, 1)], [1, 0, 0], [0, 1, 0])
+
+    def test_6_total(self) -> None:
+        self.by_all(6, [], [FULL + 1], [FULL + 1])
+        self.by_all(6, [(0, 1, 1)], [0, 0], [FULL, 1])
+        self.refused(6, wm.solve, [(0, 1, 1)], [2**64 - 1, 2], [1, 0])
+        case_f = MARKED["F"].problem
+        self.by_all(6, case_f.edges, [FULL + 1, 0], [0, FULL + 1])
+
+    def test_7_totals(self) -> None:
+        self.by_all(7, [], [3], [4])
+
+    def test_8_parents(self) -> None:
+        two = [(0, 1, 1)], [1, 0], [0, 1]
+        for root, parents in (
+            (0, [1, 0]), (2, [0, 0]), (0, [0, 2]), (0, [0, 1]), (1, [0, 0])
+        ):  # fmt: skip
+            self.by_all(8, *two, root, parents)
+        self.refused(8, wm.evaluate, *two, 2**64 - 1, [0, 2**32 - 1])
+
+    def test_9_tree_edges(self) -> None:
+        self.by_all(9, PATH, [1, 0, 0], [0, 0, 1], 0, [0, 0, 0])
+
+    def test_10_chains(self) -> None:
+        self.by_all(10, PATH, [1, 0, 0], [0, 0, 1], 0, [0, 2, 1])
+
+    def test_11_image_size(self) -> None:
+        image = wm.write(*MARKED["A"].problem)
+        for call in (wm.run, wm.read):
+            for wrong in (b"", bytes(35), image + bytes(65_537 - len(image))):
+                self.refused(11, call, wrong)
+            call(image + bytes(65_536 - len(image)))
+
+    def test_12_section_places(self) -> None:
+        image = wm.write(*MARKED["A"].problem, 3, [1, 2, 3, 3])
+        changes = [(4, 35), (12, 47), (12, 2**32 - 1), (28, len(image)), (36, None)]
+        for call in (wm.run, wm.read):
+            for place, value in changes:
+                wrong = bytearray(image[: -1 if value is None else None])
+                if value is not None:
+                    struct.pack_into("<I", wrong, place, value)
+                self.refused(12, call, wrong)
+
+    def test_13_section_lengths(self) -> None:
+        image = wm.write([(0, 1, 1)], [1, 0], [0, 1])
+        for call in (wm.run, wm.read):
+            wrong = bytearray(image)
+            wrong[1] = 1
+            self.refused(13, call, wrong)
+            wrong = bytearray(image)
+            struct.pack_into("<I", wrong, 16, 4)  # mu of 4 bytes
+            self.refused(13, call, wrong)
+            self.refused(13, call, wm.write([(0, 1, 1)], [1, 0], [1]))
+            self.refused(13, call, wm.write([(0, 1, 1)], [1, 0], [0, 1], 0, [0]))
+
+    def test_order(self) -> None:
+        """The first check that fails gives the number."""
+        self.refused(1, wm.evaluate, [(0, 0, 0)], [], [3], 9, [])
+        self.refused(2, wm.evaluate, [(0, 0, 0)], [1], [3, 4], 9, [5])
+        self.refused(3, wm.evaluate, [(0, 0, 0)], [1], [3], 9, [5])
+        self.refused(4, wm.evaluate, [(0, 1, 0)], [FULL, 1, 0], 3 * [0], 9, 3 * [5])
+        self.refused(5, wm.evaluate, [(0, 1, 1)], [FULL, 1, 0], 3 * [0], 9, 3 * [5])
+        self.refused(6, wm.evaluate, PATH, [FULL, 1, 0], 3 * [0], 9, 3 * [5])
+        self.refused(7, wm.evaluate, PATH, [FULL, 0, 0], 3 * [0], 9, 3 * [5])
+        self.refused(8, wm.evaluate, PATH, 3 * [0], 3 * [0], 9, 3 * [5])
+        self.refused(9, wm.evaluate, PATH, 3 * [0], 3 * [0], 0, [0, 2, 0])
+
+    def test_exception(self) -> None:
+        with self.assertRaises(ValueError) as caught:
+            wm.solve([], [3], [4])
+        refusal = caught.exception
+        self.assertIsInstance(refusal, wm.Refusal)
+        self.assertEqual(str(refusal), "refused 7: the two totals differ")
+        again = pickle.loads(pickle.dumps(refusal))
+        self.assertEqual((again.number, again.text), (7, "the two totals differ"))
+
+
+class Header(unittest.TestCase):
+    """The module says what hosts/c/mover.h says."""
+
+    def setUp(self) -> None:
+        with open(HEADER, encoding="utf-8") as file:
+            self.text = file.read()
+
+    def test_texts(self) -> None:
+        block = re.search(r"texts\[14\] = \{(.*?)\};", self.text, re.S)
+        assert block is not None
+        texts = re.findall(r'"(.*)"', block.group(1))
+        self.assertEqual(len(texts), 14)
+        self.assertEqual([wm.refusal_text(k) for k in range(14)], texts)
+        for number in (14, 2**32 - 1, -1):
+            self.assertEqual(wm.refusal_text(number), "no such number")
+
+    def test_constants(self) -> None:
+        numbers = dict(re.findall(r"#define MOVER_(\w+) (\d+)", self.text))
+        self.assertEqual(int(numbers["MAX_VERTICES"]), wm.MAX_VERTICES)
+        self.assertEqual(int(numbers["MAX_EDGES"]), wm.MAX_EDGES)
+        self.assertEqual(int(numbers["MAX_LENGTH"]), wm.MAX_LENGTH)
+        self.assertEqual(int(numbers["MAX_TOTAL"]), wm.MAX_TOTAL)
+        self.assertEqual(int(numbers["RECORD_MAX"]), wm._RECORD_MAX)
+        self.assertEqual(int(numbers["IMAGE_HEADER"]), wm._HEADER)
+        major, minor, patch = map(int, wm.__version__.split("."))
+        self.assertEqual(int(numbers["VERSION"]), 10_000 * major + 100 * minor + patch)
+
+    def test_signatures(self) -> None:
+        kinds: Dict[str, Any] = {
+            "uint8_t": ctypes.c_uint8,
+            "int32_t": ctypes.c_int32,
+            "uint32_t": ctypes.c_uint32,
+            "uint64_t": ctypes.c_uint64,
+            "size_t": ctypes.c_size_t,
+            "mover_edge": wm._Edge,
+            "mover_tree": wm._Tree,
+        }
+        found = {}
+        calls = re.findall(r"^(\w+) (mover_\w+)\(([^)]*)\);", self.text, re.M)
+        for result, name, parameters in calls:
+            arguments = []
+            for parameter in parameters.split(","):
+                kind, _, rest = parameter.replace("const ", "").strip().partition(" ")
+                pointer = rest.startswith("*")
+                arguments.append(
+                    ctypes.POINTER(kinds[kind]) if pointer else kinds[kind]
+                )
+            found[name] = (kinds[result], arguments)
+        self.assertEqual(found, wm._SIGNATURES)
+
+
+# ---- What may be given
+
+
+class Inputs(unittest.TestCase):
+    """Sequences, iterables and buffers pass; what does not fit is an error."""
+
+    def test_edges_in_any_order(self) -> None:
+        case = MARKED["B"]
+        draw = random.Random(1)
+        for _ in range(50):
+            edges = [draw.choice([(a, b, c), (b, a, c)]) for a, b, c in RING]
+            draw.shuffle(edges)
+            given = list(edges), list(case.problem.mu), list(case.problem.nu)
+            self.assertEqual(wm.solve(*given).cost, case.best)
+            got = wm.evaluate(*given, case.root, case.parents)
+            self.assertEqual(got.cost, case.cost)
+            self.assertFalse(wm.is_optimal(*given, case.root, case.parents))
+            self.assertEqual(wm.distances(4, edges)[0], [0, 1, 2, 1])
+            self.assertEqual(wm.read(wm.write(*given)).edges, RING)
+            self.assertEqual(given, (edges, case.problem.mu, case.problem.nu))
+
+    def test_sequences_and_buffers(self) -> None:
+        (edges, mu, nu), wanted = MARKED["A"].problem, MARKED["A"].cost
+        kinds: List[Callable[[List[int]], Any]] = [
+            tuple,
+            iter,
+            bytes,
+            lambda numbers: array.array("H", numbers),
+            lambda numbers: memoryview(array.array("q", numbers)),
+            lambda numbers: (ctypes.c_uint16 * len(numbers))(*numbers),
+        ]
+        for kind in kinds:
+            rows = (kind(list(edge)) for edge in edges)
+            got = wm.evaluate(rows, kind(mu), kind(nu), 3, kind([1, 2, 3, 3]))
+            self.assertEqual(got.cost, wanted)
+        columns: Any = memoryview(bytes(sum(edges, ()))).cast("B", [len(edges), 3])
+        self.assertEqual(wm.solve(columns, mu, nu).cost, wanted)
+        image = wm.write(edges, mu, nu)
+        forms: List[Any] = [image, bytearray(image), array.array("B", image)]
+        for form in forms:
+            self.assertEqual(wm.run(form).cost, wanted)
+            self.assertEqual(wm.run(memoryview(form)).cost, wanted)
+        doubled = bytes(byte for byte in image for _ in range(2))
+        self.assertEqual(wm.run(memoryview(doubled)[::2]).cost, wanted)
+
+    def calls(self) -> List[Tuple[str, Callable[[Any], Any], int]]:
+        """Each place for a number, a call with that number there, and the largest."""
+        u32, u64 = 2**32 - 1, 2**64 - 1
+        edges, mu, nu = [(0, 1, 1)], [1, 0], [0, 1]
+        tree = wm.Tree(0, [0, 0])
+        return [
+            ("n", lambda x: wm.distances(x, edges), u64),
+            ("n", lambda x: wm.distances_of_records(x, edges), u64),
+            ("end", lambda x: wm.distances(2, [(0, x, 1)]), u32),
+            ("end", lambda x: wm.distances_of_records(2, [(x, 0, 1)]), u32),
+            ("length", lambda x: wm.distances(2, [(0, 1, x)]), u32),
+            ("length", lambda x: wm.distances_of_records(2, [(0, 1, x)]), u32),
+            ("end", lambda x: wm.solve([(x, 1, 1)], mu, nu), u32),
+            ("mu", lambda x: wm.solve(edges, [x, 0], nu), u64),
+            ("nu", lambda x: wm.solve(edges, mu, [x, 1]), u64),
+            ("root", lambda x: wm.evaluate(edges, mu, nu, x, [0, 0]), u64),
+            ("parent", lambda x: wm.evaluate(edges, mu, nu, 0, [0, x]), u32),
+            ("root", lambda x: wm.is_optimal(edges, mu, nu, x, [0, 0]), u64),
+            ("parent", lambda x: wm.is_optimal(edges, mu, nu, 0, [0, x]), u32),
+            ("root of a Tree", lambda x: wm.Tree(x, [0, 0]), u64),
+            ("parent of a Tree", lambda x: wm.Tree(0, [0, x]), u32),
+            ("v", tree.depth, u64),
+            ("v", tree.parent, u64),
+            ("v", tree.subtree, u64),
+            ("v", tree.below, u64),
+            ("end in an image", lambda x: wm.write([(0, x, 1)], mu, nu), 255),
+            ("length in an image", lambda x: wm.write([(0, 1, x)], mu, nu), 65_535),
+            ("mu in an image", lambda x: wm.write(edges, [x, 0], nu), u32),
+            ("nu in an image", lambda x: wm.write(edges, mu, [0, x]), u32),
+            ("root in an image", lambda x: wm.write(edges, mu, nu, x, [0, 0]), 255),
+            ("parent in an image", lambda x: wm.write(edges, mu, nu, 0, [x, 0]), 255),
+        ]
+
+    def test_numbers_that_do_not_fit(self) -> None:
+        for place, call, limit in self.calls():
+            for wrong in (-1, limit + 1, 2**64, 2**64 + 1, -(2**64), 10**30):
+                with self.subTest(place=place, number=wrong):
+                    with self.assertRaisesRegex(OverflowError, f"{wrong} is not from"):
+                        call(wrong)
+            for other in (1.0, "1", None, [1], float("nan"), b"1"):
+                with self.subTest(place=place, number=other):
+                    with self.assertRaisesRegex(TypeError, "is not an integer"):
+                        call(other)
+            with self.subTest(place=place), contextlib.suppress(wm.Refusal):
+                call(limit)  # it fits, and the library is asked
+
+    def test_other_things(self) -> None:
+        two: Any = ([(0, 1, 1)], [1, 0], [0, 1])
+        calls: List[Tuple[Callable[..., Any], Tuple[Any, ...]]] = [
+            (wm.solve, (5, *two[1:])),
+            (wm.solve, ([0, 1, 1], *two[1:])),
+            (wm.solve, ([(0, 1)], *two[1:])),
+            (wm.solve, ([(0, 1, 1, 1)], *two[1:])),
+            (wm.solve, (two[0], None, two[2])),
+            (wm.solve, (two[0], {0: 1, 1: 0}, two[2])),
+            (wm.solve, (*two[:2], {0, 1})),
+            (wm.evaluate, (*two, 0, {0: 0, 1: 0})),
+            (wm.run, (36,)),
+            (wm.run, ("image",)),
+            (wm.read, (array.array("I", range(20)),)),
+        ]
+        for call, arguments in calls:
+            self.assertRaises(TypeError, call, *arguments)
+        with self.assertRaises(OverflowError):
+            wm.write([], 256 * [0], 256 * [0])
+        with self.assertRaises(OverflowError):
+            wm.write(65_536 * [(0, 1, 1)], *two[1:])
+
+    @unittest.skipUnless(np, "numpy is not installed")
+    def test_numpy(self) -> None:
+        case = MARKED["A"]
+        edges, mu, nu = case.problem
+        for kind in ("u1", "i2", ">i4", "<u4", "i8", "u8", "O"):
+            columns = np.array(edges, dtype=kind)
+            paintings = np.array(list(zip(mu, nu)), dtype=kind).T  # not contiguous
+            parents = np.array(case.parents, dtype=kind)
+            tree: Any = (parents[-1], parents)
+            got = wm.evaluate(columns, *paintings, *tree)
+            self.assertEqual(got, wm.evaluate(*case.problem, 3, case.parents))
+            self.assertEqual(wm.solve(columns[::-1], *paintings).cost, case.best)
+            self.assertTrue(wm.is_optimal(columns, *paintings, *tree))
+            self.assertEqual(wm.distances(np.int64(4), columns)[0], [0, 2, 5, 6])
+            self.assertEqual(wm.distances_of_records(4, columns)[0], [0, 2, 5, 6])
+            self.assertEqual(wm.Tree(*tree).depth(parents[0]), 2)
+            image = wm.write(columns, *paintings, *tree)
+            self.assertEqual(image, wm.write(*case.problem, 3, case.parents))
+            self.assertEqual(wm.run(np.frombuffer(image, dtype="u1")).cost, case.cost)
+        records = np.array(edges, dtype=[("a", "u4"), ("b", "u4"), ("length", "u4")])
+        self.assertEqual(wm.solve(records, mu, nu).cost, case.best)
+        self.assertEqual(type(wm.solve(records, np.array(mu), nu).cost), int)
+
+    @unittest.skipUnless(np, "numpy is not installed")
+    def test_numpy_that_does_not_fit(self) -> None:
+        edges, mu, nu = MARKED["A"].problem
+        with self.assertRaises(OverflowError):
+            wm.solve(edges, np.array(mu) - 1, nu)
+        with self.assertRaises(OverflowError):
+            wm.distances(4, np.array(edges, dtype="i8") + 2**32)
+        for wrong in (np.array(mu, dtype=float), np.array([mu]), np.array(5)):
+            with self.assertRaises(TypeError):
+                wm.solve(edges, wrong, nu)
+        with self.assertRaises(TypeError):
+            wm.solve(np.array(edges).T[:2].T, mu, nu)
+        with self.assertRaises(TypeError):
+            wm.run(np.zeros(36, dtype="i4"))
+
+
+class Surroundings(unittest.TestCase):
+    """The example, the docstring, the shared library and threads."""
+
+    def test_example(self) -> None:
+        out = io.StringIO()
+        with contextlib.redirect_stdout(out):
+            example.main()
+        lines = out.getvalue().splitlines()
+        self.assertEqual(lines[0], "least cost 19.02, in weight times mm")
+        self.assertIn("  vertex 7 gives 1 0.200 over 26.33 mm", lines)
+        self.assertEqual(len(lines), 17)
+        self.assertEqual(lines[-1], "refused 7: the two totals differ")
+
+    def test_docstring(self) -> None:
+        result = doctest.testmod(wm)
+        self.assertGreater(result.attempted, 0)
+        self.assertEqual(result.failed, 0)
+
+    def test_library_elsewhere(self) -> None:
+        load = wm._library.__wrapped__
+        with mock.patch.dict(os.environ, WEIGHT_MOVER_LIB="./nowhere.so"):
+            with self.assertRaisesRegex(OSError, "WEIGHT_MOVER_LIB"):
+                load()
+        with mock.patch.dict(os.environ, WEIGHT_MOVER_LIB="libc.so.6"):
+            with self.assertRaisesRegex(OSError, "mover_distances"):
+                load()
+        path = os.path.relpath(wm._library()._name)
+        with mock.patch.dict(os.environ, WEIGHT_MOVER_LIB=os.path.join(".", path)):
+            self.assertEqual(load()._name, os.path.join(".", path))
+
+    def test_threads(self) -> None:
+        given = [problem for _, _, problem in problems("threads", CASES // 10)]
+        alone = [wm.solve(*problem) for problem in given]
+        with ThreadPoolExecutor(8) as pool:
+            for _ in range(3):
+                at_once = list(pool.map(lambda problem: wm.solve(*problem), given))
+                self.assertEqual(at_once, alone)
+
+
+# ---- Random patches
+
+
+class ByDefinition(unittest.TestCase):
+    """Random patches, each answer held to the definitions of reference.py."""
+
+    def test_solve(self) -> None:
+        for name, _, problem in problems("solve", CASES // 2):
+            apart = wm.distances(problem.n, problem.edges)
+            self.assertEqual(faults(problem, wm.solve(*problem), apart), [], name)
+
+    def test_evaluate(self) -> None:
+        for name, draw, problem in problems("evaluate", CASES // 2):
+            root, parents = random_tree(draw, problem)
+            got = wm.evaluate(*problem, root, parents)
+            wanted = weigh(problem, parents)
+            parts = got.imbalance, got.potential, got.cost, got.table
+            self.assertEqual(parts, tuple(wanted), name)
+            self.assertEqual(got.plan, entries(wanted.table), name)
+            self.assertEqual(got.moves, moves(wanted.table), name)
+            self.assertEqual((got.root, got.parents), (root, parents), name)
+
+    def test_images(self) -> None:
+        for name, draw, problem in problems("images", CASES // 4):
+            edges = sorted((min(a, b), max(a, b), c) for a, b, c in problem.edges)
+            root, parents = random_tree(draw, problem)
+            image = wm.write(*problem, root, parents)
+            whole = wm.Patch(problem.n, edges, problem.mu, problem.nu, root, parents)
+            self.assertEqual(wm.read(image), whole, name)
+            self.assertEqual(wm.read(spread(draw, image)), whole, name)
+            weighed, got = wm.evaluate(*problem, root, parents), wm.run(image)
+            for part in dataclasses.fields(got):
+                wanted = getattr(weighed, part.name)
+                self.assertEqual(getattr(got, part.name), wanted, name)
+            apart = wm.distances(problem.n, problem.edges)
+            best = wm.run(spread(draw, wm.write(*problem)))
+            self.assertEqual(faults(problem, best, apart), [], name)
+
+    def test_trees(self) -> None:
+        """Trees, and trees with a wrong parent or root."""
+        damaged = 0
+        for name, draw, problem in problems("trees", CASES // 2):
+            n = problem.n
+            root, parents = random_tree(draw, problem)
+            if draw.random() < 0.5:
+                parents[draw.randrange(n)] = draw.randint(0, n)
+            if draw.random() < 0.1:
+                root = draw.randint(0, n)
+            tree = wm.Tree(root, parents)
+            wanted = tree_figures(root, parents)
+            damaged += wanted[n // 2] == (0, 64, 0)
+            for v in range(n + 2):
+                got = tree.depth(v), tree.parent(v), tree.subtree(v)
+                self.assertEqual(got, wanted[v] if v < n else (0, 64, 0), name)
+        self.assertGreater(damaged, CASES // 20)
+
+
+class WrongAnswers(unittest.TestCase):
+    """Answers that are spoiled on purpose: the tests above would notice."""
+
+    def test_faults(self) -> None:
+        problem = MARKED["G"].problem
+        best = wm.solve(*problem)
+        apart = wm.distances(problem.n, problem.edges)
+        self.assertEqual(faults(problem, best, apart), [])
+        crossing = [row[:] for row in best.table]  # 0 and 5 change what they send
+        crossing[0][2:4], crossing[5][2:4] = [0, 1], [3, 1]
+        short = [row[:] for row in best.table]
+        short[5][2] = 0
+        spoiled: List[Tuple[str, Dict[str, Any]]] = [
+            ("tree", {"root": 1}),
+            ("tree", {"parents": [0, 0, 1, 2, 3, 3]}),
+            ("tree", {"parents": [0, 0, 1, 2, 5, 4]}),
+            ("tree", {"parents": [1, 1, 1, 2, 3, 4]}),
+            ("tree cost", {"cost": best.cost - 1}),
+            ("plan by the rule", {"table": crossing, "plan": entries(crossing)}),
+            ("plan cost", {"table": crossing, "plan": entries(crossing)}),
+            ("plan as a list", {"plan": best.plan[::-1]}),
+            ("plan as a list", {"plan": best.plan + [(5, 5, 0)]}),
+            ("rows", {"table": short}),
+            ("columns", {"table": short}),
+            ("moves", {"moves": best.moves + 1}),
+            ("potential at 0", {"potential": [u + 1 for u in best.potential]}),
+            ("edge", {"potential": [2 * u for u in best.potential]}),
+            ("worth", {"potential": [0, 0, 0, 0, 0, 0]}),
+        ]
+        for name, change in spoiled:
+            wrong = dataclasses.replace(best, **change)
+            self.assertIn(name, faults(problem, wrong, apart), change)
+
+    def test_calls(self) -> None:
+        """One number that a call hands out is one too large, and a test fails."""
+        at_end = [(place, -1) for place in range(-5, 0)]
+        record = [(-1, byte) for byte in (0, 8, 12, 13, 13 + 1, 13 + 5)]
+        lists = [(place, 0) for place in range(-10, 0)]
+        tests: List[Tuple[Type[unittest.TestCase], str, List[Tuple[int, int]]]] = [
+            (MarkedCases, "solve", at_end),
+            (ByDefinition, "solve", at_end),
+            (MarkedCases, "evaluate", at_end),
+            (ByDefinition, "evaluate", at_end),
+            (MarkedCases, "is_optimal", [(-1, 0)]),
+            (MarkedCases, "distances", [(-1, -1)]),
+            (MarkedCases, "run", record),
+            (MarkedCases, "read", lists),
+        ]
+        for test, name, places in tests:
+            for place, item in places:
+                result = unittest.TestResult()
+                with mock.patch.object(wm, "_call", spoil(name, place, item)):
+                    test(f"test_{name}").run(result)
+                self.assertTrue(result.failures, (test, name, place, item))
+
+
+def spoil(spoiled: str, place: int, item: int) -> Callable[..., Any]:
+    """The library with one result of a call one too large: an item of a table, or the
+    number behind a pointer."""
+    real = wm._call
+
+    def call(name: str, *arguments: Any) -> Any:
+        number = real(name, *arguments)
+        if name == f"mover_{spoiled}" and number == 0:
+            result = arguments[place]
+            if isinstance(result, ctypes.Array):
+                result[item] += 1
+            else:
+                result._obj.value += 1
+        return number
+
+    return call
+
+
+@unittest.skipUnless(nx, "networkx is not installed")
+class AgainstNetworkx(unittest.TestCase):
+    """Random patches, each answer compared with networkx's."""
+
+    def least_cost(self, problem: Problem) -> int:
+        """By network simplex. No edge need carry more than the total. Without that
+        bound networkx 2 takes much flow on an edge for a cycle of negative cost."""
+        graph = nx.DiGraph()
+        for x, amount in enumerate(problem.difference):
+            graph.add_node(x, demand=-amount)
+        for a, b, length in problem.edges:
+            for pair in ((a, b), (b, a)):
+                graph.add_edge(*pair, weight=length, capacity=sum(problem.mu))
+        return int(nx.network_simplex(graph)[0])
+
+    def test_costs_and_judging(self) -> None:
+        """The best answer, and trees that are best, nearly best and not."""
+        judged = {True: 0, False: 0}
+        for name, draw, problem in problems("networkx"):
+            least = self.least_cost(problem)
+            best = wm.solve(*problem)
+            self.assertEqual(best.cost, least, name)
+            apart = wm.distances(problem.n, problem.edges)
+            self.assertEqual(faults(problem, best, apart), [], name)
+            for root, parents in (
+                rerooted(draw, best.parents),
+                swapped(draw, problem, best.parents),
+                random_tree(draw, problem),
+            ):
+                optimal = weigh(problem, parents).cost == least
+                judgment = wm.is_optimal(*problem, root, parents)
+                self.assertIs(judgment, optimal, name)
+                judged[optimal] += 1
+        print(f"judged best {judged[True]}, not best {judged[False]}", flush=True)
+        self.assertGreater(min(judged.values()), CASES // 4)
+
+    def test_distances(self) -> None:
+        for name, _, problem in problems("distances", CASES // 2):
+            n = problem.n
+            graph = nx.Graph()
+            graph.add_nodes_from(range(n))
+            graph.add_weighted_edges_from(problem.edges)
+            if n <= 10:
+                found = nx.floyd_warshall(graph)
+            else:
+                found = dict(nx.all_pairs_dijkstra_path_length(graph))
+            wanted = [[found[i][j] for j in range(n)] for i in range(n)]
+            self.assertEqual(wm.distances(n, problem.edges), wanted, name)
+            self.assertEqual(wm.distances_of_records(n, problem.edges), wanted, name)
+
+
+class Tally(unittest.TextTestResult):
+    """Counts the tests that passed."""
+
+    passed = 0
+
+    def addSuccess(self, test: unittest.TestCase) -> None:
+        super().addSuccess(test)
+        self.passed += 1
+
+
+def main() -> int:
+    print(f"seed {SEED}, {CASES} patches", flush=True)
+    runner = unittest.TextTestRunner(resultclass=Tally)
+    result: Any = unittest.main(testRunner=runner, exit=False).result
+    sys.stderr.flush()
+    for module, name in ((nx, "networkx"), (np, "numpy")):
+        if module is None:
+            print(f"{name} is not installed: the tests with it are left out")
+    wrong = [getattr(test, "test_case", test) for test, _ in result.failures]
+    wrong += [getattr(test, "test_case", test) for test, _ in result.errors]
+    print(f"{result.passed} passed, {len(set(map(str, wrong)))} failed")
+    return 0 if result.wasSuccessful() and result.passed > 0 else 1
+
+
+if __name__ == "__main__":
+    sys.exit(main())

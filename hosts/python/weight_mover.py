@@ -1,0 +1,600 @@
+"""The weight mover: the cheapest way to carry one painting of a patch into another.
+
+A patch has n vertices, 0 to n - 1, with n from 1 to 64, and at most 512 edges. An edge
+is (a, b, length): two vertices, in either order, and a length from 1 to 65,535 in
+hundredths of a millimetre. Edges come in any order, no pair of vertices twice.
+
+A painting is one whole amount, in grains, for each vertex. `mu` is the painting before,
+`nu` the one after. Both have the same total, at most 16,777,216 grains.
+
+    >>> import weight_mover
+    >>> edges = [(0, 1, 5), (0, 2, 1), (1, 2, 1)]
+    >>> best = weight_mover.solve(edges, mu=[3, 0, 0], nu=[0, 3, 0])
+    >>> best.cost, best.plan
+    (6, [(0, 1, 3)])
+
+Costs count grains times hundredths of a millimetre. A tree is a root and the parent of
+each vertex; the root is its own parent, and every other vertex shares an edge of the
+patch with its parent.
+
+Numbers may come in lists, tuples, other sequences and iterables, and in buffers such as
+`array.array` and numpy arrays; edges also as a numpy array of three columns. What the
+library does not accept raises `Refusal`, what is no whole number `TypeError`, and a
+number that is too large or negative `OverflowError`: nothing is rounded or wrapped.
+
+Every call has buffers of its own and lets other threads run while the library works,
+which uses at most 40 KB of a thread's stack.
+
+The shared library, libhost_calls.so, is looked for beside this file; the environment
+variable WEIGHT_MOVER_LIB names another file. hosts/python/build makes it, for x86-64
+Linux. Nothing beyond the standard library of Python 3.8 is needed.
+"""
+
+import operator
+import os
+import struct
+from collections.abc import Mapping, Set
+from ctypes import (
+    CDLL,
+    POINTER,
+    Array,
+    Structure,
+    byref,
+    c_int32,
+    c_size_t,
+    c_uint8,
+    c_uint32,
+    c_uint64,
+)
+from dataclasses import dataclass, field
+from functools import lru_cache
+from typing import Any, Iterable, List, Optional, SupportsIndex, Tuple
+
+__all__ = [
+    "Answer",
+    "Evaluation",
+    "MAX_EDGES",
+    "MAX_LENGTH",
+    "MAX_TOTAL",
+    "MAX_VERTICES",
+    "Patch",
+    "Refusal",
+    "Tree",
+    "distances",
+    "distances_of_records",
+    "evaluate",
+    "is_optimal",
+    "read",
+    "refusal_text",
+    "run",
+    "solve",
+    "write",
+]
+__version__ = "0.2.0"
+
+MAX_VERTICES = 64
+MAX_EDGES = 512
+MAX_LENGTH = 65_535  # hundredths of a millimetre
+MAX_TOTAL = 16_777_216  # grains
+
+Edge = Tuple[int, int, int]  # a, b, length
+Entry = Tuple[int, int, int]  # from, to, amount
+Numbers = Iterable[SupportsIndex]
+Edges = Iterable[Numbers]
+BytesLike = Any  # bytes, bytearray, memoryview, a numpy array of bytes
+
+
+# ---- Refusals
+
+_TEXTS = (
+    "accepted",
+    "the number of vertices is 0 or above 64",
+    "there are more than 512 edges, or a table has the wrong length",
+    "an edge has ends that are no rising pair of vertices, or is out of order",
+    "an edge has length 0 or a length above 65535",
+    "some vertex cannot be reached from vertex 0",
+    "a total is above 16777216",
+    "the two totals differ",
+    "the root or a parent is no vertex, the root has another parent,"
+    " or a second vertex is its own parent",
+    "a vertex and its parent share no edge",
+    "a chain of parents misses the root",
+    "the image has under 36 or over 65536 bytes",
+    "a section of the image is out of order or out of bounds",
+    "byte 1 of the image is not 0, or a section has the wrong length",
+)
+
+
+def refusal_text(number: int) -> str:
+    """The meaning of a number that the library returns; 0 is "accepted"."""
+    return _TEXTS[number] if 0 <= number < len(_TEXTS) else "no such number"
+
+
+class Refusal(ValueError):
+    """The library refuses what it was given.
+
+    `number` says which check failed, 1 to 13, and `text` what it means. The checks run
+    in the order 11, 12, 13 and then 1 to 10; each call says by which it refuses.
+    """
+
+    def __init__(self, number: int) -> None:
+        super().__init__(number)
+        self.number = number
+        self.text = refusal_text(number)
+
+    def __str__(self) -> str:
+        return f"refused {self.number}: {self.text}"
+
+
+# ---- Numbers, checked against the C types that are to hold them
+
+_U8, _U16, _U32, _U64 = (2**bits - 1 for bits in (8, 16, 32, 64))
+
+
+def _number(value: Any, limit: int, name: str) -> int:
+    """A whole number from 0 to a limit."""
+    try:
+        number = operator.index(value)
+    except TypeError:
+        kind = type(value).__name__
+        raise TypeError(f"{name}: {value!r} ({kind}) is not an integer") from None
+    if not 0 <= number <= limit:
+        raise OverflowError(f"{name}: {number} is not from 0 to {limit}")
+    return number
+
+
+def _items(values: Any, name: str) -> List[Any]:
+    """What a sequence or an iterable holds, or a buffer, which has `tolist`."""
+    if hasattr(values, "tolist"):
+        values = values.tolist()
+    try:
+        items = iter(values)
+    except TypeError:
+        raise TypeError(f"{name}: {values!r} is not a list") from None
+    return list(items)
+
+
+def _numbers(values: Numbers, limit: int, name: str) -> List[int]:
+    """A list of whole numbers from 0 to a limit."""
+    if isinstance(values, (Mapping, Set)):
+        raise TypeError(f"{name}: a {type(values).__name__} has no order of vertices")
+    items = enumerate(_items(values, name))
+    return [_number(item, limit, f"{name}[{place}]") for place, item in items]
+
+
+def _sorted_edges(edges: Edges, end_limit: int, length_limit: int) -> List[Edge]:
+    """The edges as the library wants them: lower end first, rising by their ends."""
+    result = []
+    for place, edge in enumerate(_items(edges, "edges")):
+        name = f"edges[{place}]"
+        numbers = _items(edge, name)
+        if len(numbers) != 3:
+            raise TypeError(f"{name}: {edge!r} is not (a, b, length)")
+        a = _number(numbers[0], end_limit, name)
+        b = _number(numbers[1], end_limit, name)
+        length = _number(numbers[2], length_limit, name)
+        result.append((a, b, length) if a < b else (b, a, length))
+    return sorted(result)
+
+
+# ---- The shared library
+
+
+class _Edge(Structure):
+    """mover_edge"""
+
+    _fields_ = [("a", c_uint32), ("b", c_uint32), ("length", c_uint32)]
+
+
+class _Tree(Structure):
+    """mover_tree"""
+
+    _fields_ = [
+        ("n", c_size_t),
+        ("root", c_size_t),
+        ("parents", c_uint32 * MAX_VERTICES),
+    ]
+
+
+def _table(item: Any) -> List[Any]:
+    """How C passes a table: a pointer, then a length."""
+    return [POINTER(item), c_size_t]
+
+
+_BYTES, _I32S, _U32S, _U64S = map(_table, (c_uint8, c_int32, c_uint32, c_uint64))
+_EDGE_LISTS = 3 * _U32S
+_PROBLEM = [c_size_t] + _EDGE_LISTS + 2 * _U64S
+_GIVEN_TREE = [c_size_t] + _U32S
+_COST_AND_MOVES = [POINTER(c_uint64), POINTER(c_uint32)]
+_N_M_ROOT_TREE = 3 * [POINTER(c_size_t)] + [POINTER(c_uint32)]
+
+# What each call of hosts/c/mover.h returns and takes.
+_SIGNATURES = {
+    "mover_distances": (c_uint32, [c_size_t] + _EDGE_LISTS + _U32S),
+    "mover_distances_of_records": (c_uint32, [c_size_t] + _table(_Edge) + _U32S),
+    "mover_evaluate": (
+        c_uint32,
+        _PROBLEM + _GIVEN_TREE + 2 * _I32S + _U32S + _COST_AND_MOVES,
+    ),
+    "mover_is_optimal": (c_uint32, _PROBLEM + _GIVEN_TREE + [POINTER(c_uint32)]),
+    "mover_solve": (c_uint32, _PROBLEM + _U32S + _I32S + _U32S + _COST_AND_MOVES),
+    "mover_read": (
+        c_uint32,
+        _BYTES + _EDGE_LISTS + 2 * _U64S + _U32S + _N_M_ROOT_TREE,
+    ),
+    "mover_run": (c_uint32, 2 * _BYTES),
+    "mover_tree_new": (_Tree, [c_size_t] + _GIVEN_TREE),
+    "mover_tree_depth": (c_uint32, [_Tree, c_size_t]),
+    "mover_tree_parent": (c_uint32, [_Tree, c_size_t]),
+    "mover_tree_subtree": (c_uint64, [_Tree, c_size_t]),
+}
+
+
+@lru_cache(maxsize=None)
+def _library() -> CDLL:
+    """The shared library, loaded at the first call."""
+    here = os.path.dirname(os.path.abspath(__file__))
+    path = os.environ.get("WEIGHT_MOVER_LIB") or os.path.join(here, "libhost_calls.so")
+    try:
+        library = CDLL(path)
+        for name, (result, arguments) in _SIGNATURES.items():
+            call = getattr(library, name)
+            call.restype, call.argtypes = result, arguments
+    except (OSError, AttributeError) as error:
+        raise OSError(
+            f"the weight mover's shared library cannot be used: {error}. Build it"
+            " with hosts/python/build and put it beside weight_mover.py, or name"
+            " its file in WEIGHT_MOVER_LIB"
+        ) from error
+    return library
+
+
+def _call(name: str, *arguments: Any) -> Any:
+    """What a call returns; each array goes as a pointer and a length."""
+    passed = []
+    for argument in arguments:
+        passed.append(argument)
+        if isinstance(argument, Array):
+            passed.append(len(argument))
+    return getattr(_library(), name)(*passed)
+
+
+def _check(name: str, *arguments: Any) -> None:
+    """Makes a call that returns a refusal number, and raises what it refuses."""
+    number = _call(name, *arguments)
+    if number != 0:
+        raise Refusal(number)
+
+
+def _array(item: Any, numbers: List[Any]) -> Any:
+    return (item * len(numbers))(*numbers)
+
+
+def _room(n: int) -> int:
+    """For how many vertices to make answer tables; a larger n is refused unseen."""
+    return n if n <= MAX_VERTICES else 0
+
+
+def _edge_lists(edges: Edges) -> List[Any]:
+    """The edges as three tables."""
+    rows = _sorted_edges(edges, _U32, _U32)
+    return [_array(c_uint32, [row[part] for row in rows]) for part in range(3)]
+
+
+def _problem(edges: Edges, mu: Numbers, nu: Numbers) -> List[Any]:
+    """n and the tables of a patch and its paintings; n is the length of mu."""
+    amounts = [
+        _array(c_uint64, _numbers(painting, _U64, name))
+        for painting, name in ((mu, "mu"), (nu, "nu"))
+    ]
+    return [len(amounts[0]), *_edge_lists(edges), *amounts]
+
+
+def _given_tree(root: SupportsIndex, parents: Numbers) -> Tuple[int, Any]:
+    table = _array(c_uint32, _numbers(parents, _U32, "parents"))
+    return _number(root, _U64, "root"), table
+
+
+# ---- Answers
+
+
+class Tree:
+    """A rooted tree by the parents of its vertices; the root is its own parent.
+
+    No edges are looked at. For a vertex that is not below n, or if the parents make no
+    tree, `depth`, `parent` and `subtree` give 0, 64 and 0.
+    """
+
+    def __init__(self, root: SupportsIndex, parents: Numbers) -> None:
+        given = _given_tree(root, parents)
+        self._tree = _call("mover_tree_new", len(given[1]), *given)
+
+    @property
+    def n(self) -> int:
+        """The number of vertices."""
+        return int(self._tree.n)
+
+    @property
+    def root(self) -> int:
+        """The vertex at the top."""
+        return int(self._tree.root)
+
+    @property
+    def parents(self) -> List[int]:
+        """The parent of each vertex."""
+        return list(self._tree.parents[: self.n])
+
+    def depth(self, v: SupportsIndex) -> int:
+        """The number of edges from v up to the root."""
+        return int(_call("mover_tree_depth", self._tree, _number(v, _U64, "v")))
+
+    def parent(self, v: SupportsIndex) -> int:
+        """The parent of v; the root's is the root."""
+        return int(_call("mover_tree_parent", self._tree, _number(v, _U64, "v")))
+
+    def subtree(self, v: SupportsIndex) -> int:
+        """A word with bit y set for each vertex y that is v or is below it."""
+        return int(_call("mover_tree_subtree", self._tree, _number(v, _U64, "v")))
+
+    def below(self, v: SupportsIndex) -> List[int]:
+        """The vertices of `subtree(v)` as a list."""
+        word = self.subtree(v)
+        return [y for y in range(MAX_VERTICES) if word >> y & 1]
+
+    def __eq__(self, other: object) -> bool:
+        return isinstance(other, Tree) and bytes(self._tree) == bytes(other._tree)
+
+    def __hash__(self) -> int:
+        return hash(bytes(self._tree))
+
+    def __repr__(self) -> str:
+        return f"Tree(root={self.root}, parents={self.parents})"
+
+
+@dataclass(frozen=True)
+class Answer:
+    """A plan that carries mu into nu, and the tree along whose edges it runs.
+
+    cost       grains times hundredths of a millimetre, along the tree's edges
+    moves      how many entries of the plan go from one vertex to another
+    plan       entries (from, to, grains) by from, then to; what stays is in it too
+    root       the tree's root; 0 in a best answer
+    parents    each vertex's parent in the tree; the root is its own
+    potential  hundredths of a millimetre for each vertex; 0 at the root. In a best
+               answer it changes along no edge by more than the edge's length, and the
+               sum of potential times (mu - nu) is the cost: so no plan is cheaper
+    table      the plan in full: table[i][j] grains go from i to j
+    """
+
+    cost: int
+    moves: int
+    plan: List[Entry]
+    root: int
+    parents: List[int]
+    potential: List[int]
+    table: List[List[int]] = field(repr=False)
+
+    @property
+    def tree(self) -> Tree:
+        """The tree, with its depths and subtrees."""
+        return Tree(self.root, self.parents)
+
+
+@dataclass(frozen=True)
+class Evaluation(Answer):
+    """The answer of a given tree, with one list more.
+
+    imbalance  grains for each vertex: mu - nu, summed over the vertices below it. So
+               much goes up to its parent, or comes down from there if it is negative
+    """
+
+    imbalance: List[int]
+
+
+@dataclass(frozen=True)
+class Patch:
+    """What an image holds; without a tree `root` is 0 and `parents` is None."""
+
+    n: int
+    edges: List[Edge]
+    mu: List[int]
+    nu: List[int]
+    root: int
+    parents: Optional[List[int]]
+
+
+def _square(places: Any, n: int) -> List[List[int]]:
+    """A table of n x n numbers by rows."""
+    return [list(places[n * i : n * i + n]) for i in range(n)]
+
+
+def _entries(table: List[List[int]]) -> List[Entry]:
+    """The positive entries of a plan by row, then column."""
+    return [
+        (i, j, amount)
+        for i, row in enumerate(table)
+        for j, amount in enumerate(row)
+        if amount > 0
+    ]
+
+
+# ---- Calls on lists
+
+
+def distances(n: SupportsIndex, edges: Edges) -> List[List[int]]:
+    """The distance between every two of n vertices: n rows of n numbers.
+
+    A distance is the least sum of lengths over all paths, in hundredths of a
+    millimetre. Refuses by 1 to 5.
+    """
+    count = _number(n, _U64, "n")
+    out = (c_uint32 * _room(count) ** 2)()
+    _check("mover_distances", count, *_edge_lists(edges), out)
+    return _square(out, count)
+
+
+def distances_of_records(n: SupportsIndex, edges: Edges) -> List[List[int]]:
+    """The same as `distances`, by the library's call over edge records."""
+    count = _number(n, _U64, "n")
+    out = (c_uint32 * _room(count) ** 2)()
+    records = _array(_Edge, _sorted_edges(edges, _U32, _U32))
+    _check("mover_distances_of_records", count, records, out)
+    return _square(out, count)
+
+
+def solve(edges: Edges, mu: Numbers, nu: Numbers) -> Answer:
+    """A cheapest plan from painting mu to painting nu, with a best tree (root 0) and a
+    potential that shows that no plan is cheaper.
+
+    Lengths in hundredths of a millimetre, amounts in grains. Refuses by 1 to 7.
+    """
+    problem = _problem(edges, mu, nu)
+    n = _room(problem[0])
+    parents, potential = (c_uint32 * n)(), (c_int32 * n)()
+    plan = (c_uint32 * n**2)()
+    cost, moves = c_uint64(), c_uint32()
+    results = parents, potential, plan, byref(cost), byref(moves)
+    _check("mover_solve", *problem, *results)
+    table = _square(plan, n)
+    return Answer(
+        cost=cost.value,
+        moves=moves.value,
+        plan=_entries(table),
+        root=0,
+        parents=list(parents),
+        potential=list(potential),
+        table=table,
+    )
+
+
+def evaluate(
+    edges: Edges, mu: Numbers, nu: Numbers, root: SupportsIndex, parents: Numbers
+) -> Evaluation:
+    """The plan that carries mu into nu along the edges of a given tree, and its cost.
+
+    Lengths in hundredths of a millimetre, amounts in grains. Refuses by 1 to 10.
+    """
+    problem = _problem(edges, mu, nu)
+    tree = _given_tree(root, parents)
+    n = _room(problem[0])
+    imbalance, potential = (c_int32 * n)(), (c_int32 * n)()
+    plan = (c_uint32 * n**2)()
+    cost, moves = c_uint64(), c_uint32()
+    results = imbalance, potential, plan, byref(cost), byref(moves)
+    _check("mover_evaluate", *problem, *tree, *results)
+    table = _square(plan, n)
+    return Evaluation(
+        cost=cost.value,
+        moves=moves.value,
+        plan=_entries(table),
+        root=tree[0],
+        parents=list(tree[1]),
+        potential=list(potential),
+        table=table,
+        imbalance=list(imbalance),
+    )
+
+
+def is_optimal(
+    edges: Edges, mu: Numbers, nu: Numbers, root: SupportsIndex, parents: Numbers
+) -> bool:
+    """Whether no spanning tree of the patch costs less than the given one.
+
+    Lengths in hundredths of a millimetre, amounts in grains. Refuses by 1 to 10.
+    """
+    optimal = c_uint32()
+    problem, tree = _problem(edges, mu, nu), _given_tree(root, parents)
+    _check("mover_is_optimal", *problem, *tree, byref(optimal))
+    return optimal.value == 1
+
+
+# ---- Calls on images
+
+_HEADER = 36  # bytes before the first section
+_RECORD_MAX = 16_717  # bytes of the answer for 64 vertices
+
+
+def _image(image: BytesLike) -> Any:
+    """A table of an image's bytes."""
+    view = memoryview(image)
+    if view.itemsize != 1:
+        raise TypeError(f"image: items of {view.itemsize} bytes where one is wanted")
+    return (c_uint8 * view.nbytes).from_buffer_copy(view.tobytes())
+
+
+def run(image: BytesLike) -> Answer:
+    """The answer to an image, a bytes-like object: the plan of its tree if it has one,
+    as from `evaluate`, or else the best, as from `solve`.
+
+    Refuses by 11, 12, 13 and then 1 to 10; without a tree it stops after 7.
+    """
+    given, record = _image(image), (c_uint8 * _RECORD_MAX)()
+    _check("mover_run", given, record)
+    n = given[0]
+    cost, moves, root = struct.unpack_from("<QIB", record)
+    potential = struct.unpack_from(f"<{n}i", record, 13 + n)
+    plan = struct.unpack_from(f"<{n * n}I", record, 13 + 5 * n)
+    table = _square(plan, n)
+    return Answer(
+        cost=cost,
+        moves=moves,
+        plan=_entries(table),
+        root=root,
+        parents=list(record[13 : 13 + n]),
+        potential=list(potential),
+        table=table,
+    )
+
+
+def read(image: BytesLike) -> Patch:
+    """What an image, a bytes-like object, holds. Its form alone is examined: refuses by
+    11, 12, 13, 1 and 2."""
+    a, b, lengths = ((c_uint32 * MAX_EDGES)() for _ in range(3))
+    mu, nu = ((c_uint64 * MAX_VERTICES)() for _ in range(2))
+    parents = (c_uint32 * MAX_VERTICES)()
+    n, m, root, tree = c_size_t(), c_size_t(), c_size_t(), c_uint32()
+    results = byref(n), byref(m), byref(root), byref(tree)
+    _check("mover_read", _image(image), a, b, lengths, mu, nu, parents, *results)
+    vertices, edges = n.value, m.value
+    return Patch(
+        n=vertices,
+        edges=list(zip(a[:edges], b[:edges], lengths[:edges])),
+        mu=mu[:vertices],
+        nu=nu[:vertices],
+        root=root.value,
+        parents=parents[:vertices] if tree.value == 1 else None,
+    )
+
+
+def write(
+    edges: Edges,
+    mu: Numbers,
+    nu: Numbers,
+    root: SupportsIndex = 0,
+    parents: Optional[Numbers] = None,
+) -> bytes:
+    """An image for `run` and `read`: the patch, its paintings and, if parents are
+    given, a tree.
+
+    Raises `OverflowError` for what its bytes cannot hold: more than 255 vertices or
+    65,535 edges, an end, root or parent above 255, a length above 65,535, an amount
+    above 4,294,967,295. Nothing else is examined: that is for `run` and `read`.
+    """
+    rows = _sorted_edges(edges, _U8, _U16)
+    before, after = _numbers(mu, _U32, "mu"), _numbers(nu, _U32, "nu")
+    tree = b""
+    if parents is not None:
+        tree = bytes([_number(root, _U8, "root"), *_numbers(parents, _U8, "parents")])
+    sections = [
+        b"".join(struct.pack("<BBH", *row) for row in rows),
+        struct.pack(f"<{len(before)}I", *before),
+        struct.pack(f"<{len(after)}I", *after),
+        tree,
+    ]
+    n = _number(len(before), _U8, "the number of vertices")
+    m = _number(len(rows), _U16, "the number of edges")
+    header, at = struct.pack("<BBH", n, 0, m), _HEADER
+    for section in sections:
+        header += struct.pack("<II", at, len(section))
+        at += len(section)
+    return header + b"".join(sections)

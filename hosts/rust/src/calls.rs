@@ -1,0 +1,445 @@
+//! The exported calls under their own names, on slices.
+//!
+//! Each returns the number of its refusal, or 0; [`Refusal::check`](crate::Refusal::check) makes a `Result`
+//! of it. After a refusal every table is as it was and every single result is 0. An answer table may be
+//! longer than is asked; what is past the answer stays as it was. All contents are allowed: what is no
+//! graph, no tree or no image is refused. The calls keep nothing and may be used from several threads at
+//! once.
+//!
+//! A table of n × n numbers has row i from place i × n.
+
+// The calls have the arguments that they have.
+#![allow(clippy::too_many_arguments)]
+// SAFETY of every call below: pointers come from slices and references, so each is aligned and valid for its
+// length, and what is borrowed mutably overlaps nothing. The library is proved to stay within these places
+// for all contents, and keeps no pointer.
+
+use crate::{Edge, Tree};
+
+mod ffi {
+    use crate::{Edge, Tree};
+
+    extern "C" {
+        pub fn mover_distances(
+            n: usize,
+            a: *const u32,
+            a_len: usize,
+            b: *const u32,
+            b_len: usize,
+            lengths: *const u32,
+            lengths_len: usize,
+            out: *mut u32,
+            out_len: usize,
+        ) -> u32;
+        pub fn mover_distances_of_records(
+            n: usize,
+            edges: *const Edge,
+            edges_len: usize,
+            out: *mut u32,
+            out_len: usize,
+        ) -> u32;
+        pub fn mover_evaluate(
+            n: usize,
+            a: *const u32,
+            a_len: usize,
+            b: *const u32,
+            b_len: usize,
+            lengths: *const u32,
+            lengths_len: usize,
+            mu: *const u64,
+            mu_len: usize,
+            nu: *const u64,
+            nu_len: usize,
+            root: usize,
+            parents: *const u32,
+            parents_len: usize,
+            imbalance: *mut i32,
+            imbalance_len: usize,
+            potential: *mut i32,
+            potential_len: usize,
+            plan: *mut u32,
+            plan_len: usize,
+            cost: *mut u64,
+            moves: *mut u32,
+        ) -> u32;
+        pub fn mover_is_optimal(
+            n: usize,
+            a: *const u32,
+            a_len: usize,
+            b: *const u32,
+            b_len: usize,
+            lengths: *const u32,
+            lengths_len: usize,
+            mu: *const u64,
+            mu_len: usize,
+            nu: *const u64,
+            nu_len: usize,
+            root: usize,
+            parents: *const u32,
+            parents_len: usize,
+            optimal: *mut u32,
+        ) -> u32;
+        pub fn mover_solve(
+            n: usize,
+            a: *const u32,
+            a_len: usize,
+            b: *const u32,
+            b_len: usize,
+            lengths: *const u32,
+            lengths_len: usize,
+            mu: *const u64,
+            mu_len: usize,
+            nu: *const u64,
+            nu_len: usize,
+            parents: *mut u32,
+            parents_len: usize,
+            potential: *mut i32,
+            potential_len: usize,
+            plan: *mut u32,
+            plan_len: usize,
+            cost: *mut u64,
+            moves: *mut u32,
+        ) -> u32;
+        pub fn mover_read(
+            image: *const u8,
+            image_len: usize,
+            a: *mut u32,
+            a_len: usize,
+            b: *mut u32,
+            b_len: usize,
+            lengths: *mut u32,
+            lengths_len: usize,
+            mu: *mut u64,
+            mu_len: usize,
+            nu: *mut u64,
+            nu_len: usize,
+            parents: *mut u32,
+            parents_len: usize,
+            n: *mut usize,
+            m: *mut usize,
+            root: *mut usize,
+            tree: *mut u32,
+        ) -> u32;
+        pub fn mover_run(image: *const u8, image_len: usize, record: *mut u8, record_len: usize) -> u32;
+        pub fn mover_tree_new(n: usize, root: usize, parents: *const u32, parents_len: usize) -> Tree;
+        pub fn mover_tree_depth(tree: Tree, v: usize) -> u32;
+        pub fn mover_tree_parent(tree: Tree, v: usize) -> u32;
+        pub fn mover_tree_subtree(tree: Tree, v: usize) -> u64;
+    }
+}
+
+/// All distances: fills the first n × n places of `out`. Refuses by 1 to 5.
+///
+/// ```
+/// use weight_mover::calls::mover_distances;
+///
+/// // A triangle whose long edge is longer than the way round.
+/// let mut out = [0; 9];
+/// assert_eq!(mover_distances(3, &[0, 0, 1], &[1, 2, 2], &[5, 1, 1], &mut out), 0);
+/// assert_eq!(out, [0, 2, 1, 2, 0, 1, 1, 1, 0]);
+/// ```
+pub fn mover_distances(n: usize, a: &[u32], b: &[u32], lengths: &[u32], out: &mut [u32]) -> u32 {
+    unsafe {
+        ffi::mover_distances(
+            n,
+            a.as_ptr(),
+            a.len(),
+            b.as_ptr(),
+            b.len(),
+            lengths.as_ptr(),
+            lengths.len(),
+            out.as_mut_ptr(),
+            out.len(),
+        )
+    }
+}
+
+/// All distances, from a list of records. Refuses by 1 to 5.
+///
+/// ```
+/// use weight_mover::{calls::mover_distances_of_records, Edge};
+///
+/// let mut out = [0; 4];
+/// let edge = Edge { a: 0, b: 1, length: 7 };
+/// assert_eq!(mover_distances_of_records(2, &[edge], &mut out), 0);
+/// assert_eq!(out, [0, 7, 7, 0]);
+/// ```
+pub fn mover_distances_of_records(n: usize, edges: &[Edge], out: &mut [u32]) -> u32 {
+    unsafe { ffi::mover_distances_of_records(n, edges.as_ptr(), edges.len(), out.as_mut_ptr(), out.len()) }
+}
+
+/// Evaluates a tree: fills n places of `imbalance` and `potential` and n × n of `plan`. Refuses by 1 to 10.
+///
+/// ```
+/// use weight_mover::calls::mover_evaluate;
+///
+/// let (mut imbalance, mut potential, mut plan) = ([0; 2], [0; 2], [0; 4]);
+/// let (mut cost, mut moves) = (0, 0);
+/// let number = mover_evaluate(
+///     2, &[0], &[1], &[7], &[3, 1], &[0, 4], 1, &[1, 1],
+///     &mut imbalance, &mut potential, &mut plan, &mut cost, &mut moves,
+/// );
+/// assert_eq!((number, cost, moves), (0, 21, 1));
+/// assert_eq!((imbalance, potential, plan), ([3, 0], [7, 0], [0, 3, 0, 1]));
+/// ```
+pub fn mover_evaluate(
+    n: usize,
+    a: &[u32],
+    b: &[u32],
+    lengths: &[u32],
+    mu: &[u64],
+    nu: &[u64],
+    root: usize,
+    parents: &[u32],
+    imbalance: &mut [i32],
+    potential: &mut [i32],
+    plan: &mut [u32],
+    cost: &mut u64,
+    moves: &mut u32,
+) -> u32 {
+    unsafe {
+        ffi::mover_evaluate(
+            n,
+            a.as_ptr(),
+            a.len(),
+            b.as_ptr(),
+            b.len(),
+            lengths.as_ptr(),
+            lengths.len(),
+            mu.as_ptr(),
+            mu.len(),
+            nu.as_ptr(),
+            nu.len(),
+            root,
+            parents.as_ptr(),
+            parents.len(),
+            imbalance.as_mut_ptr(),
+            imbalance.len(),
+            potential.as_mut_ptr(),
+            potential.len(),
+            plan.as_mut_ptr(),
+            plan.len(),
+            cost,
+            moves,
+        )
+    }
+}
+
+/// Judges a tree: `optimal` becomes 1 if no spanning tree of the graph costs less, else 0. Refuses by 1 to 10.
+///
+/// ```
+/// use weight_mover::calls::mover_is_optimal;
+///
+/// let mut optimal = 9;
+/// let number = mover_is_optimal(2, &[0], &[1], &[7], &[3, 1], &[0, 4], 1, &[1, 1], &mut optimal);
+/// assert_eq!((number, optimal), (0, 1));
+/// ```
+pub fn mover_is_optimal(
+    n: usize,
+    a: &[u32],
+    b: &[u32],
+    lengths: &[u32],
+    mu: &[u64],
+    nu: &[u64],
+    root: usize,
+    parents: &[u32],
+    optimal: &mut u32,
+) -> u32 {
+    unsafe {
+        ffi::mover_is_optimal(
+            n,
+            a.as_ptr(),
+            a.len(),
+            b.as_ptr(),
+            b.len(),
+            lengths.as_ptr(),
+            lengths.len(),
+            mu.as_ptr(),
+            mu.len(),
+            nu.as_ptr(),
+            nu.len(),
+            root,
+            parents.as_ptr(),
+            parents.len(),
+            optimal,
+        )
+    }
+}
+
+/// The best answer: fills n places of `parents`, a best tree with root 0, n of `potential` and n × n of
+/// `plan`. Refuses by 1 to 7.
+///
+/// ```
+/// use weight_mover::calls::mover_solve;
+///
+/// let (mut parents, mut potential, mut plan) = ([9; 2], [9; 2], [9; 4]);
+/// let (mut cost, mut moves) = (0, 0);
+/// let number = mover_solve(
+///     2, &[0], &[1], &[7], &[3, 1], &[0, 4],
+///     &mut parents, &mut potential, &mut plan, &mut cost, &mut moves,
+/// );
+/// assert_eq!((number, cost, moves), (0, 21, 1));
+/// assert_eq!((parents, potential, plan), ([0, 0], [0, -7], [0, 3, 0, 1]));
+/// ```
+pub fn mover_solve(
+    n: usize,
+    a: &[u32],
+    b: &[u32],
+    lengths: &[u32],
+    mu: &[u64],
+    nu: &[u64],
+    parents: &mut [u32],
+    potential: &mut [i32],
+    plan: &mut [u32],
+    cost: &mut u64,
+    moves: &mut u32,
+) -> u32 {
+    unsafe {
+        ffi::mover_solve(
+            n,
+            a.as_ptr(),
+            a.len(),
+            b.as_ptr(),
+            b.len(),
+            lengths.as_ptr(),
+            lengths.len(),
+            mu.as_ptr(),
+            mu.len(),
+            nu.as_ptr(),
+            nu.len(),
+            parents.as_mut_ptr(),
+            parents.len(),
+            potential.as_mut_ptr(),
+            potential.len(),
+            plan.as_mut_ptr(),
+            plan.len(),
+            cost,
+            moves,
+        )
+    }
+}
+
+/// Reads an image: fills m places of the three edge lists and n of `mu`, `nu` and `parents`.
+///
+/// `tree` becomes 1, or 0 for an image without a tree: then `root` is 0 and `parents`, which must have n
+/// places all the same, stays as it was. The lists may be of unequal length. Refuses by 11, 12, 13, 1 and 2.
+///
+/// ```
+/// use weight_mover::calls::mover_read;
+/// use weight_mover::Patch;
+///
+/// let image = Patch::new(2).edge(0, 1, 7).mu(&[3, 1]).nu(&[0, 4]).image().expect("small numbers");
+/// let (mut a, mut b, mut lengths) = ([9; 1], [9; 2], [9; 3]);
+/// let (mut mu, mut nu, mut parents) = ([9; 2], [9; 3], [9; 2]);
+/// let (mut n, mut m, mut root, mut tree) = (9, 9, 9, 9);
+/// let number = mover_read(
+///     &image, &mut a, &mut b, &mut lengths, &mut mu, &mut nu, &mut parents,
+///     &mut n, &mut m, &mut root, &mut tree,
+/// );
+/// assert_eq!((number, n, m, root, tree), (0, 2, 1, 0, 0));
+/// assert_eq!((a, b, lengths), ([0], [1, 9], [7, 9, 9]));
+/// assert_eq!((mu, nu, parents), ([3, 1], [0, 4, 9], [9, 9]));
+/// ```
+pub fn mover_read(
+    image: &[u8],
+    a: &mut [u32],
+    b: &mut [u32],
+    lengths: &mut [u32],
+    mu: &mut [u64],
+    nu: &mut [u64],
+    parents: &mut [u32],
+    n: &mut usize,
+    m: &mut usize,
+    root: &mut usize,
+    tree: &mut u32,
+) -> u32 {
+    unsafe {
+        ffi::mover_read(
+            image.as_ptr(),
+            image.len(),
+            a.as_mut_ptr(),
+            a.len(),
+            b.as_mut_ptr(),
+            b.len(),
+            lengths.as_mut_ptr(),
+            lengths.len(),
+            mu.as_mut_ptr(),
+            mu.len(),
+            nu.as_mut_ptr(),
+            nu.len(),
+            parents.as_mut_ptr(),
+            parents.len(),
+            n,
+            m,
+            root,
+            tree,
+        )
+    }
+}
+
+/// Evaluates the tree of an image, or finds the best answer for one without a tree.
+///
+/// Fills the first [`record_size`](crate::record_size) bytes of `record`, which
+/// [`Answer::from_record`](crate::Answer::from_record) reads. Checks run in the order 11, 12, 13 and then 1
+/// to 10, without a tree to 7.
+///
+/// ```
+/// use weight_mover::{calls::mover_run, record_size, Answer, Patch};
+///
+/// let image = Patch::new(2).edge(0, 1, 7).mu(&[3, 1]).nu(&[0, 4]).image().expect("small numbers");
+/// let mut record = [0; record_size(2)];
+/// assert_eq!(mover_run(&image, &mut record), 0);
+/// assert_eq!(Answer::from_record(2, &record).cost, 21);
+/// ```
+pub fn mover_run(image: &[u8], record: &mut [u8]) -> u32 {
+    unsafe { ffi::mover_run(image.as_ptr(), image.len(), record.as_mut_ptr(), record.len()) }
+}
+
+/// The tree with a root and a list of parents, of which nothing is examined: the first n places are taken
+/// (64 at most, and no more than there are), and every other place holds 0.
+///
+/// ```
+/// use weight_mover::calls::mover_tree_new;
+///
+/// let tree = mover_tree_new(3, 1, &[1, 1, 0, 7]);
+/// assert_eq!((tree.n, tree.root, &tree.parents[..4]), (3, 1, &[1, 1, 0, 0][..]));
+/// ```
+pub fn mover_tree_new(n: usize, root: usize, parents: &[u32]) -> Tree {
+    unsafe { ffi::mover_tree_new(n, root, parents.as_ptr(), parents.len()) }
+}
+
+/// The number of edges from v up to the root; 0 if v is no vertex or this is no tree.
+///
+/// ```
+/// use weight_mover::calls::{mover_tree_depth, mover_tree_new};
+///
+/// let tree = mover_tree_new(3, 1, &[1, 1, 0]);
+/// assert_eq!([0, 1, 2, 3].map(|v| mover_tree_depth(tree, v)), [1, 0, 2, 0]);
+/// ```
+pub fn mover_tree_depth(tree: Tree, v: usize) -> u32 {
+    unsafe { ffi::mover_tree_depth(tree, v) }
+}
+
+/// The parent of v, the root's being the root; 64 if v is no vertex or this is no tree.
+///
+/// ```
+/// use weight_mover::calls::{mover_tree_new, mover_tree_parent};
+///
+/// let tree = mover_tree_new(3, 1, &[1, 1, 0]);
+/// assert_eq!([0, 1, 2, 3].map(|v| mover_tree_parent(tree, v)), [1, 1, 0, 64]);
+/// ```
+pub fn mover_tree_parent(tree: Tree, v: usize) -> u32 {
+    unsafe { ffi::mover_tree_parent(tree, v) }
+}
+
+/// The vertices that are v or below it, bit y for vertex y; 0 if v is no vertex or this is no tree.
+///
+/// ```
+/// use weight_mover::calls::{mover_tree_new, mover_tree_subtree};
+///
+/// let tree = mover_tree_new(3, 1, &[1, 1, 0]);
+/// assert_eq!([0, 1, 2, 3].map(|v| mover_tree_subtree(tree, v)), [0b101, 0b111, 0b100, 0]);
+/// ```
+pub fn mover_tree_subtree(tree: Tree, v: usize) -> u64 {
+    unsafe { ffi::mover_tree_subtree(tree, v) }
+}

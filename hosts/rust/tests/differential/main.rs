@@ -1,0 +1,39 @@
+//! The proved library against the reference solver: every call, on sound, faulty and damaged arguments.
+//!
+//! | module | what it calls |
+//! |---|---|
+//! | `images` | `mover_run` |
+//! | `tables` | distances by lists and by records, evaluating, judging, solving |
+//! | `reader` | `mover_read` |
+//! | `trees` | the tree by value |
+//!
+//! Tests whose names begin with `wrong_` make calls wrong on purpose, and want the others to notice.
+//!
+//! `MOVER_CASES` sets the number of images of each kind, and all other numbers of cases by it; `MOVER_SEED`
+//! repeats a run. Under a memory checker: `hosts/rust/valgrind`.
+
+mod images;
+mod jobs;
+mod lent;
+mod reader;
+mod spoils;
+mod tables;
+mod trees;
+mod wrong_tables;
+
+fn pass<T>(result: Result<T, String>) -> T {
+    result.unwrap_or_else(|complaint| panic!("{complaint}"))
+}
+
+fn ensure(condition: bool, complaint: impl FnOnce() -> String) -> Result<(), String> {
+    if condition {
+        Ok(())
+    } else {
+        Err(complaint())
+    }
+}
+
+/// The start of a complaint, for one line.
+fn brief(complaint: &str) -> String {
+    complaint.lines().next().unwrap_or("").chars().take(100).collect()
+}

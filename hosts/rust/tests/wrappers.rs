@@ -1,0 +1,549 @@
+//! The safe wrappers: the same answers as the calls, buffers that are reused, numbers that do not wrap, flow.
+//!
+//! `MOVER_CASES` and `MOVER_SEED` are as in the differential tests.
+
+use reference::random::{Fault, Random};
+use reference::random_lists::{faulty_lists, sound_problem, ListFault, LIST_FAULTS, SHARED_FAULTS};
+use reference::record::Record;
+use reference::runs::{cases, seed};
+use reference::Lists;
+use std::fmt::Debug;
+use weight_mover::calls::{
+    mover_distances, mover_distances_of_records, mover_evaluate, mover_is_optimal, mover_solve,
+};
+use weight_mover::{
+    distances_of_records, distances_of_records_into, read, read_into, run, run_into, Answer, Distances, Edge,
+    Evaluation, Graph, Patch, Refusal, Tree,
+};
+
+/// The graph of some lists, its edges added in any order and their ends either way.
+fn graph(random: &mut Random, lists: &Lists) -> Graph {
+    let triples = lists.a.iter().zip(&lists.b).zip(&lists.lengths);
+    let mut edges: Vec<(u32, u32, u32)> = triples
+        .map(|((&a, &b), &length)| {
+            if random.chance(2) {
+                (b, a, length)
+            } else {
+                (a, b, length)
+            }
+        })
+        .collect();
+    random.shuffle(&mut edges);
+    Graph::new(lists.n).edges(edges)
+}
+
+/// What all wrappers give, filled anew or into what is there.
+#[derive(Clone, Debug, Default, PartialEq)]
+struct Filled {
+    distances: Distances,
+    of_records: Distances,
+    evaluation: Evaluation,
+    answer: Answer,
+}
+
+/// The results of all wrappers, in this order: distances, records, evaluating, judging, solving.
+type Results = [Result<(), Refusal>; 5];
+
+fn fill(graph: &Graph, lists: &Lists, filled: &mut Filled) -> (Results, Option<bool>) {
+    let Lists {
+        n,
+        mu,
+        nu,
+        root,
+        parents,
+        ..
+    } = lists;
+    let records: Vec<Edge> = graph.iter().collect();
+    let judged = graph.is_optimal(mu, nu, *root, parents);
+    let results = [
+        graph.distances_into(&mut filled.distances),
+        distances_of_records_into(*n, &records, &mut filled.of_records),
+        graph.evaluate_into(mu, nu, *root, parents, &mut filled.evaluation),
+        judged.map(|_| ()),
+        graph.solve_into(mu, nu, &mut filled.answer),
+    ];
+    (results, judged.ok())
+}
+
+/// The numbers that the calls return for the lists of a graph.
+fn numbers(graph: &Graph, lists: &Lists) -> [u32; 5] {
+    let edges: Vec<Edge> = graph.iter().collect();
+    let column = |field: fn(&Edge) -> u32| edges.iter().map(field).collect::<Vec<u32>>();
+    let (a, b, lengths) = (column(|e| e.a), column(|e| e.b), column(|e| e.length));
+    let Lists {
+        n,
+        mu,
+        nu,
+        root,
+        parents,
+        ..
+    } = lists;
+    let (mut row, mut other, mut table) = ([0; 64], [0; 64], [0; 4096]);
+    let (mut list, mut cost, mut moves, mut optimal) = ([0; 64], 0, 0, 0);
+    [
+        mover_distances(*n, &a, &b, &lengths, &mut table),
+        mover_distances_of_records(*n, &edges, &mut table),
+        mover_evaluate(
+            *n, &a, &b, &lengths, mu, nu, *root, parents, &mut row, &mut other, &mut table, &mut cost,
+            &mut moves,
+        ),
+        mover_is_optimal(*n, &a, &b, &lengths, mu, nu, *root, parents, &mut optimal),
+        mover_solve(
+            *n, &a, &b, &lengths, mu, nu, &mut list, &mut row, &mut table, &mut cost, &mut moves,
+        ),
+    ]
+}
+
+fn same<T: PartialEq + Debug>(name: &str, got: &T, expected: &T) -> Result<(), String> {
+    match got == expected {
+        true => Ok(()),
+        false => Err(format!("{name}: expected {expected:?}, but got {got:?}")),
+    }
+}
+
+/// Tests what the wrappers filled against the calls themselves, made with tables that are longer.
+fn agree(graph: &Graph, lists: &Lists, filled: &Filled, judged: bool) -> Result<(), String> {
+    agree_on_distances(lists, filled)?;
+    agree_on_the_given_tree(lists, &filled.evaluation, judged)?;
+    agree_on_the_best(lists, &filled.answer)?;
+    agree_with_each_other(graph, lists, filled)
+}
+
+fn agree_on_distances(lists: &Lists, filled: &Filled) -> Result<(), String> {
+    let (n, mut table) = (lists.n, [0; 5000]);
+    let number = mover_distances(n, &lists.a, &lists.b, &lists.lengths, &mut table);
+    assert_eq!(number, 0);
+    same("distances", &filled.distances.table(), &&table[..n * n])?;
+    same("of records", &filled.of_records, &filled.distances)?;
+    same("vertices", &filled.distances.vertices(), &n)?;
+    let between = (0..n * n).map(|k| filled.distances.between(k / n, k % n));
+    same("between", &between.eq(table[..n * n].iter().copied()), &true)
+}
+
+fn agree_on_the_given_tree(lists: &Lists, evaluation: &Evaluation, judged: bool) -> Result<(), String> {
+    let Lists {
+        n,
+        a,
+        b,
+        lengths,
+        mu,
+        nu,
+        root,
+        parents,
+    } = lists;
+    let (n, root) = (*n, *root);
+    let (mut row, mut other, mut table) = ([0; 99], [0; 99], [0; 5000]);
+    let (mut cost, mut moves, mut optimal) = (0, 0, 0);
+    let number = mover_evaluate(
+        n, a, b, lengths, mu, nu, root, parents, &mut row, &mut other, &mut table, &mut cost, &mut moves,
+    );
+    assert_eq!(number, 0);
+    let Evaluation { imbalance, answer } = evaluation;
+    same("imbalance", &&imbalance[..], &&row[..n])?;
+    same("potential", &&answer.potential[..], &&other[..n])?;
+    same("plan", &answer.plan(), &&table[..n * n])?;
+    same("tree", &(answer.root, &answer.parents), &(root, parents))?;
+    same("figures", &(answer.cost, answer.moves), &(cost, moves))?;
+    let number = mover_is_optimal(n, a, b, lengths, mu, nu, root, parents, &mut optimal);
+    assert_eq!(number, 0);
+    same("judged", &judged, &(optimal == 1))
+}
+
+fn agree_on_the_best(lists: &Lists, answer: &Answer) -> Result<(), String> {
+    let Lists {
+        n,
+        a,
+        b,
+        lengths,
+        mu,
+        nu,
+        ..
+    } = lists;
+    let n = *n;
+    let (mut list, mut row, mut table) = ([0; 99], [0; 99], [0; 5000]);
+    let (mut cost, mut moves) = (0, 0);
+    let number = mover_solve(
+        n, a, b, lengths, mu, nu, &mut list, &mut row, &mut table, &mut cost, &mut moves,
+    );
+    assert_eq!(number, 0);
+    same("best potential", &&answer.potential[..], &&row[..n])?;
+    same("best plan", &answer.plan(), &&table[..n * n])?;
+    same("best tree", &(answer.root, &answer.parents[..]), &(0, &list[..n]))?;
+    same("best figures", &(answer.cost, answer.moves), &(cost, moves))
+}
+
+/// The convenient wrappers give the same again, and so does filling over another tree's answer.
+fn agree_with_each_other(graph: &Graph, lists: &Lists, filled: &Filled) -> Result<(), String> {
+    let Lists {
+        n,
+        mu,
+        nu,
+        root,
+        parents,
+        ..
+    } = lists;
+    let records: Vec<Edge> = graph.iter().collect();
+    same("distances()", &graph.distances().as_ref(), &Ok(&filled.distances))?;
+    let of_records = distances_of_records(*n, &records);
+    same(
+        "distances_of_records()",
+        &of_records.as_ref(),
+        &Ok(&filled.of_records),
+    )?;
+    let evaluation = graph.evaluate(mu, nu, *root, parents);
+    same("evaluate()", &evaluation.as_ref(), &Ok(&filled.evaluation))?;
+    same("solve()", &graph.solve(mu, nu).as_ref(), &Ok(&filled.answer))?;
+    let mut over = filled.evaluation.answer.clone();
+    graph.solve_into(mu, nu, &mut over).expect("accepted");
+    same("solve_into()", &over, &filled.answer)
+}
+
+/// Wrappers give what the calls give, also into what was filled before with more or fewer vertices.
+#[test]
+fn wrappers_agree_with_the_calls() {
+    let seed = seed();
+    let mut filled = Filled::default();
+    for index in 0..cases(2_000) {
+        let random = &mut Random::for_case(seed, index);
+        let lists = Lists::of(&sound_problem(random));
+        let graph = graph(random, &lists);
+        let (results, judged) = fill(&graph, &lists, &mut filled);
+        assert_eq!(results, [Ok(()); 5]);
+        let result = agree(&graph, &lists, &filled, judged.expect("judged"));
+        result.unwrap_or_else(|complaint| panic!("seed {seed}, case {index}: {complaint}"));
+    }
+    println!("wrappers against the calls: seed {seed}, {} cases", cases(2_000));
+}
+
+type Spoil = fn(&mut Filled, &mut bool);
+
+/// The test above can fail: whatever is spoiled is missed.
+#[test]
+fn wrong_wrappers_are_caught() {
+    let spoils: [(&str, Spoil); 10] = [
+        ("distances", |f, _| {
+            f.distances = Graph::new(1).distances().expect("accepted")
+        }),
+        ("of records", |f, _| {
+            f.of_records = Graph::new(1).distances().expect("accepted")
+        }),
+        ("imbalance", |f, _| f.evaluation.imbalance.push(0)),
+        ("potential", |f, _| f.evaluation.answer.potential[0] += 1),
+        ("tree", |f, _| f.evaluation.answer.root += 1),
+        ("figures", |f, _| f.evaluation.answer.cost += 1),
+        ("judged", |_, judged| *judged = !*judged),
+        ("best potential", |f, _| f.answer.potential[0] += 1),
+        ("best tree", |f, _| f.answer.parents[0] += 1),
+        ("best figures", |f, _| f.answer.moves += 1),
+    ];
+    let random = &mut Random::new(3);
+    let lists = Lists::of(&sound_problem(random));
+    let graph = graph(random, &lists);
+    let mut right = Filled::default();
+    let judged = fill(&graph, &lists, &mut right).1.expect("judged");
+    assert!(lists.n > 1);
+    assert_eq!(agree(&graph, &lists, &right, judged), Ok(()));
+    for (name, spoil) in spoils {
+        let (mut filled, mut judged) = (right.clone(), judged);
+        spoil(&mut filled, &mut judged);
+        let complaint = agree(&graph, &lists, &filled, judged).expect_err(name);
+        assert!(complaint.starts_with(&format!("{name}: ")), "{name}: {complaint}");
+    }
+}
+
+/// After a refusal, which is the call's own, what was filled before is as it was.
+#[test]
+fn refusals_leave_what_is_there() {
+    let seed = seed();
+    let mut filled = Filled::default();
+    let mut seen = [[false; 11]; 5];
+    let count = cases(4_000);
+    for index in 0..count {
+        let random = &mut Random::for_case(seed, index);
+        let fault = random.index(SHARED_FAULTS.len() + LIST_FAULTS.len());
+        let (shared, others): (&[Fault], &[ListFault]) = match fault.checked_sub(SHARED_FAULTS.len()) {
+            None => (&[SHARED_FAULTS[fault]], &[]),
+            Some(k) => (&[], &[LIST_FAULTS[k]]),
+        };
+        let lists = faulty_lists(random, shared, others);
+        let graph = graph(random, &lists);
+        let before = filled.clone();
+        let expected = numbers(&graph, &lists);
+        let (results, judged) = fill(&graph, &lists, &mut filled);
+        assert_eq!(
+            results,
+            expected.map(Refusal::check),
+            "seed {seed}, case {index}: {lists:?}"
+        );
+        assert_eq!(judged.is_some(), expected[3] == 0);
+        let unchanged = [
+            filled.distances == before.distances,
+            filled.of_records == before.of_records,
+            filled.evaluation == before.evaluation,
+            true,
+            filled.answer == before.answer,
+        ];
+        for call in 0..5 {
+            let number = expected[call];
+            assert!(
+                number == 0 || unchanged[call],
+                "seed {seed}, case {index}, call {call}: {lists:?}"
+            );
+            seen[call][number as usize] = true;
+        }
+    }
+    for (call, last) in [5, 5, 10, 10, 7].into_iter().enumerate() {
+        let came: Vec<usize> = (1..11).filter(|&k| seen[call][k]).collect();
+        assert!(
+            count < 2_000 || came == (1..=last).collect::<Vec<_>>(),
+            "call {call}: {came:?}"
+        );
+    }
+}
+
+/// Filling again what was as large before allocates nothing: the tables stay where they are.
+#[test]
+fn buffers_are_reused() {
+    let edges = |n: u32| (1..n).map(|x| (x - 1, x, 3));
+    let graph = |n: u32| Graph::new(n as usize).edges(edges(n));
+    let ones = [1; 64];
+    let parents: Vec<u32> = (0..64u32).map(|x| x.saturating_sub(1)).collect();
+    let places = |f: &Filled| {
+        [
+            f.distances.table().as_ptr() as usize,
+            f.evaluation.imbalance.as_ptr() as usize,
+            f.evaluation.answer.potential.as_ptr() as usize,
+            f.evaluation.answer.plan().as_ptr() as usize,
+            f.answer.parents.as_ptr() as usize,
+            f.answer.plan().as_ptr() as usize,
+        ]
+    };
+    let mut filled = Filled::default();
+    let mut patch = Patch::default();
+    let mut run_before = Answer::default();
+    let mut first = None;
+    for n in [64, 5, 64, 1, 33] {
+        let size = n as usize;
+        let (graph, mu, parents) = (graph(n), &ones[..size], &parents[..size]);
+        graph.distances_into(&mut filled.distances).expect("accepted");
+        let evaluation = &mut filled.evaluation;
+        graph
+            .evaluate_into(mu, mu, 0, parents, evaluation)
+            .expect("accepted");
+        graph.solve_into(mu, mu, &mut filled.answer).expect("accepted");
+        let given = Patch::new(size).edges(edges(n)).mu(mu).nu(mu).tree(0, parents);
+        let image = given.image().expect("small numbers");
+        read_into(&image, &mut patch).expect("accepted");
+        assert_eq!(patch, given);
+        run_into(&image, &mut run_before).expect("accepted");
+        let (mu, nu) = patch.measures();
+        let mut now = places(&filled).to_vec();
+        now.extend([
+            mu.as_ptr() as usize,
+            nu.as_ptr() as usize,
+            run_before.plan().as_ptr() as usize,
+        ]);
+        assert_eq!(*first.get_or_insert(now.clone()), now, "{n} vertices");
+    }
+}
+
+/// Numbers that would be right if they were cut to fewer bits are refused for what they are.
+#[test]
+fn numbers_do_not_wrap() {
+    let two = |length: u32| Graph::new(2).edge(0, 1, length);
+    assert_eq!(two(65_536 + 7).distances(), Err(Refusal::EdgeLength));
+    assert_eq!(two(65_536).solve(&[1, 0], &[0, 1]), Err(Refusal::EdgeLength));
+    for end in [256 + 1, 65_536 + 1, u32::MAX] {
+        assert_eq!(Graph::new(2).edge(0, end, 1).distances(), Err(Refusal::EdgeOrder));
+    }
+    for n in [256 + 2, (1 << 32) + 2, usize::MAX] {
+        assert_eq!(Graph::new(n).edge(0, 1, 1).distances(), Err(Refusal::VertexCount));
+        assert_eq!(Patch::new(n).edge(0, 1, 1).run(), Err(Refusal::VertexCount));
+    }
+    let heavy = Err(Refusal::TotalTooLarge);
+    assert_eq!(two(1).solve(&[(1 << 32) + 1, 0], &[1, 0]), heavy);
+    assert_eq!(two(1).solve(&[(1 << 63) + 1, 1 << 63], &[1, 0]), heavy);
+    for root in [256, 1 << 32, usize::MAX] {
+        assert_eq!(
+            two(1).evaluate(&[1, 0], &[0, 1], root, &[0, 0]).err(),
+            Some(Refusal::TreeParents)
+        );
+        assert_eq!(
+            two(1).is_optimal(&[1, 0], &[0, 1], root, &[0, 0]),
+            Err(Refusal::TreeParents)
+        );
+    }
+    for parent in [256, 65_536, u32::MAX] {
+        assert_eq!(
+            two(1).is_optimal(&[1, 0], &[0, 1], 0, &[0, parent]),
+            Err(Refusal::TreeParents)
+        );
+    }
+}
+
+/// What fits no image has none; what fits comes back from it.
+#[test]
+fn images() {
+    let two = || {
+        Patch::new(2)
+            .edge(0, 1, 65_535)
+            .mu(&[u32::MAX.into(), 0])
+            .tree(255, &[255, 0])
+    };
+    let image = two().image().expect("all fits");
+    assert_eq!(read(&image), Ok(two()));
+    let unfit = [
+        Patch::new(256),
+        two().edge(0, 256, 1),
+        two().edge(0, 2, 65_536),
+        two().mu(&[1 << 32, 0]),
+        two().nu(&[0, 1 << 32]),
+        two().tree(256, &[0, 0]),
+        two().tree(0, &[0, 256]),
+        (0..65_536).fold(Patch::new(2), |patch, _| patch.edge(0, 1, 1)),
+    ];
+    for patch in unfit {
+        assert_eq!(patch.image(), None);
+    }
+
+    let seed = seed();
+    let mut reused = (Patch::default(), Answer::default());
+    for index in 0..cases(1_000) {
+        let random = &mut Random::for_case(seed, index);
+        let lists = Lists::of(&sound_problem(random));
+        let triples = graph(random, &lists);
+        let edges = triples.iter().map(|e| (e.a, e.b, e.length));
+        let mut patch = Patch::new(lists.n).edges(edges).mu(&lists.mu).nu(&lists.nu);
+        if random.chance(2) {
+            patch = patch.tree(lists.root, &lists.parents);
+        }
+        let image = patch.image().expect("small numbers");
+        assert_eq!(read(&image).as_ref(), Ok(&patch), "seed {seed}, case {index}");
+        read_into(&image, &mut reused.0).expect("accepted");
+        assert_eq!(reused.0, patch, "seed {seed}, case {index}");
+
+        let answer = run(&image).expect("accepted");
+        run_into(&image, &mut reused.1).expect("accepted");
+        assert_eq!(reused.1, answer);
+        let by_tables = patch.run().expect("accepted");
+        assert_eq!(by_tables.cost, answer.cost, "seed {seed}, case {index}");
+        if patch.given_tree().is_some() {
+            assert_eq!(by_tables, answer, "seed {seed}, case {index}");
+        }
+
+        // A refusal leaves both as they were.
+        assert_eq!(read_into(&image[..35], &mut reused.0), Err(Refusal::ImageSize));
+        assert_eq!(run_into(&image[..35], &mut reused.1), Err(Refusal::ImageSize));
+        assert_eq!(reused, (patch, answer));
+    }
+}
+
+/// Tests a flow by all that it says: a tree's imbalances, the cost, and that nothing crosses an edge both ways.
+fn check_flow(graph: &Graph, answer: &Answer, imbalance: &[i32], flow: &[i64]) -> Result<(), String> {
+    let expected: Vec<i64> = imbalance.iter().map(|&x| x.into()).collect();
+    same("flow", &flow, &&expected[..])?;
+    let others = || (0..answer.vertices()).filter(|&x| x != answer.root);
+    let length = |x: usize| {
+        let pair = Edge::from((x as u32, answer.parents[x], 0));
+        let edge = graph.iter().find(|e| (e.a, e.b) == (pair.a, pair.b));
+        u64::from(edge.expect("an edge").length)
+    };
+    let cost = others().map(|x| length(x) * flow[x].unsigned_abs()).sum();
+    same("cost", &answer.cost, &cost)?;
+    let crossing = |x: usize| {
+        let up = answer.parents[x] as usize;
+        let crosses = |s: &[usize]| s == [x, up] || s == [up, x];
+        let moves = answer
+            .entries()
+            .filter(|&(from, to, _)| answer.tree_path(from, to).windows(2).any(crosses));
+        moves.map(|e| u64::from(e.2)).sum::<u64>()
+    };
+    for x in others() {
+        same("crossing", &crossing(x), &flow[x].unsigned_abs())?;
+    }
+    Ok(())
+}
+
+#[test]
+fn flow_is_the_imbalance() {
+    let seed = seed();
+    for index in 0..cases(500) {
+        let random = &mut Random::for_case(seed, index);
+        let lists = Lists::of(&sound_problem(random));
+        let graph = graph(random, &lists);
+        let Lists {
+            mu,
+            nu,
+            root,
+            parents,
+            ..
+        } = &lists;
+        let given = graph.evaluate(mu, nu, *root, parents).expect("accepted");
+        let best = graph.solve(mu, nu).expect("accepted");
+        let best = graph.evaluate(mu, nu, 0, &best.parents).expect("accepted");
+        for Evaluation { imbalance, answer } in [given, best] {
+            let result = check_flow(&graph, &answer, &imbalance, &answer.flow());
+            result.unwrap_or_else(|complaint| panic!("seed {seed}, case {index}: {complaint}"));
+        }
+    }
+}
+
+/// The test above can fail: wrong flows, and a plan that crosses an edge both ways, are caught.
+#[test]
+fn wrong_flows_are_caught() {
+    let line = Graph::new(3).edge(0, 1, 10).edge(1, 2, 20);
+    let right = line
+        .evaluate(&[5, 0, 1], &[0, 4, 2], 1, &[1, 1, 1])
+        .expect("accepted");
+    let (imbalance, answer) = (&right.imbalance, &right.answer);
+    assert_eq!(check_flow(&line, answer, imbalance, &answer.flow()), Ok(()));
+    for wrong in [[-5, 0, 1], [5, 0, 0], [5, 1, -1]] {
+        let complaint = check_flow(&line, answer, imbalance, &wrong).unwrap_err();
+        assert!(complaint.starts_with("flow: "), "{complaint}");
+    }
+    let mut cheaper = answer.clone();
+    cheaper.cost -= 1;
+    assert!(check_flow(&line, &cheaper, imbalance, &answer.flow()).is_err());
+    // Another plan of the same flow: 2 sends a grain to 1 and gets two from 0.
+    let crossed = Record {
+        cost: answer.cost,
+        moves: 3,
+        tree: reference::Tree {
+            root: 1,
+            parents: vec![1, 1, 1],
+        },
+        potential: vec![0; 3],
+        plan: vec![0, 3, 2, 0, 0, 0, 0, 1, 0],
+    };
+    let crossed = Answer::from_record(3, &crossed.to_bytes());
+    let complaint = check_flow(&line, &crossed, imbalance, &crossed.flow()).unwrap_err();
+    assert!(complaint.starts_with("crossing: "), "{complaint}");
+}
+
+/// The methods of a tree are the calls', with none for 0, 64 and 0.
+#[test]
+fn trees() {
+    let best = Graph::new(3)
+        .edge(0, 1, 1)
+        .edge(1, 2, 1)
+        .solve(&[1, 0, 0], &[0, 0, 1])
+        .expect("accepted");
+    let tree = best.tree();
+    assert_eq!(tree, Tree::new(3, 0, &[0, 0, 1]));
+    assert_eq!([0, 1, 2].map(|v| tree.depth(v)), [Some(0), Some(1), Some(2)]);
+    assert_eq!([0, 1, 2].map(|v| tree.parent(v)), [Some(0), Some(0), Some(1)]);
+    assert_eq!([0, 1, 2].map(|v| tree.subtree(v)), [Some(7), Some(6), Some(4)]);
+    let full = Tree::new(64, 63, &[63; 64]);
+    assert_eq!(
+        (full.depth(0), full.parent(0), full.subtree(63)),
+        (Some(1), Some(63), Some(u64::MAX))
+    );
+    let none = |tree: Tree, v: usize| (tree.depth(v), tree.parent(v), tree.subtree(v)) == (None, None, None);
+    assert!(none(tree, 3) && none(tree, usize::MAX));
+    let mut cycle = tree;
+    cycle.parents[1] = 2;
+    assert!((0..4).all(|v| none(cycle, v)));
+    let mut wide = full;
+    wide.n = 65;
+    assert!((0..66).all(|v| none(wide, v)));
+}

@@ -1,3 +1,2 @@
 pub mod DistanceCases
-pub mod FloydWarshall
 pub mod RecordCases

@@ -15,5 +15,5 @@ abbrev pub lengthOf : EdgeRecord → ℕ
 lengthOf e = e .length
 
 -- the graph of the three lists of the records' fields
-abbrev pub graphOf : ℕ → List EdgeRecord → Graph
-graphOf n es = graph n (map lowerOf es) (map upperOf es) (map lengthOf es)
+abbrev pub graphOfRecords : ℕ → List EdgeRecord → Graph
+graphOfRecords n es = graph n (map lowerOf es) (map upperOf es) (map lengthOf es)

@@ -1,2 +1,1 @@
-pub mod FloydWarshall
 pub mod Records

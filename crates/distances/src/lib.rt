@@ -3,9 +3,9 @@ ghost use mathlib.Core.Path.{_≡_};
 ghost use Rattle.graph.specs.Graph.{graph};
 ghost use Rattle.distances.specs.Distances.{distancesRefusal, distancesTable};
 
-mod floyd_warshall;
 pub mod records;
 
+use floyd_warshall::fill_distances;
 use graph::edges;
 pub use records::EdgeRecord;
 pub use records::distances_of_records;
@@ -18,10 +18,10 @@ pub fn distances(n: usize, a: &[u32], b: &[u32], lengths: &[u32], out: &mut [u32
     let mut parents = [0u32; 64];
     let mut edge = [0u32; 64];
     let room = edges::square_fits(n, out.len());
-    let refusal = shortest_paths::check(n, a, b, lengths, room, &mut parents, &mut edge);
+    let refusal = graph_checks::check(n, a, b, lengths, room, &mut parents, &mut edge);
     if refusal != 0 {
         return refusal;
     }
-    floyd_warshall::fill_distances(n, a, b, lengths, out);
+    fill_distances(n, a, b, lengths, out);
     0
 }

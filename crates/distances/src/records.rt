@@ -3,8 +3,8 @@ ghost use mathlib.Core.Path.{_≡_};
 ghost use Prim.Native.Nat.{_≤_, min};
 ghost use lib.ListN.{length};
 ghost use Rattle.distances.specs.Distances.{distancesRefusal, distancesTable};
-ghost use Rattle.distances.specs.Records.{graphOf};
-ghost use Rattle.distances.specs.Steps.Records.{taken, Full, OfColumns};
+ghost use Rattle.distances.specs.Records.{graphOfRecords};
+ghost use Rattle.distances.specs.Steps.Records.{columnsOf, Full, OfColumns};
 use graph::edges;
 
 #[repr(C)]
@@ -30,7 +30,7 @@ fn few(m: usize) -> usize
 // The first m edges, field by field.
 fn take_apart(edges: &[EdgeRecord], m: usize) -> Columns
     requires { ⌜ (m ≤ length (now edges)) × (m ≤ 512) ⌝ }
-    ensures { λ r. ⌜ r ≡ taken (now (edges .entry)) m ⌝ }
+    ensures { λ r. ⌜ r ≡ columnsOf (now (edges .entry)) m ⌝ }
 {
     let mut a = [0u32; 512];
     let mut b = [0u32; 512];
@@ -69,8 +69,8 @@ fn distances_of_columns(n: usize, m: usize, c: Columns, out: &mut [u32]) -> u32
 
 // The answers and refusals of `distances` on the three lists of the records' fields.
 pub fn distances_of_records(n: usize, edges: &[EdgeRecord], out: &mut [u32]) -> u32
-    ensures { λ r. ⌜ (r ≡ distancesRefusal (graphOf n (now (edges .entry))) (now (out .entry)))
-        × (now (out .exit) ≡ distancesTable (graphOf n (now (edges .entry))) (now (out .entry))) ⌝ }
+    ensures { λ r. ⌜ (r ≡ distancesRefusal (graphOfRecords n (now (edges .entry))) (now (out .entry)))
+        × (now (out .exit) ≡ distancesTable (graphOfRecords n (now (edges .entry))) (now (out .entry))) ⌝ }
 {
     let m = edges.len();
     let k = few(m);

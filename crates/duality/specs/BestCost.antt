@@ -16,9 +16,9 @@ least (x ∷ []) = x
 least (x ∷ y ∷ l) = min x (least (y ∷ l))
 
 -- every table of k numbers below n
-unfoldable pub tables : ℕ → ℕ → List (List ℕ)
-tables n zero = [] ∷ []
-tables n (suc k) = flatMap (λ t. tab n (λ v. t ++ (v ∷ []))) (tables n k)
+unfoldable pub parentTables : ℕ → ℕ → List (List ℕ)
+parentTables n zero = [] ∷ []
+parentTables n (suc k) = flatMap (λ t. tab n (λ v. t ++ (v ∷ []))) (parentTables n k)
 
 -- the cost of the tree with the root r and the parents in the table t, if checks 8 to 10 accept it
 abbrev pub costOf : Graph → (ℕ → ℕ) → (ℕ → ℕ) → ℕ → List ℕ → List ℕ
@@ -26,7 +26,7 @@ costOf g mu nu r t = cond (eqb (refusal (treeChecks g r (at t))) 0) (treeCost g 
 
 -- the costs of all spanning trees: every root with every table of parents
 unfoldable pub costs : Graph → (ℕ → ℕ) → (ℕ → ℕ) → List ℕ
-costs g mu nu = flatMap (λ r. flatMap (costOf g mu nu r) (tables (g .n) (g .n))) (tab (g .n) (λ r. r))
+costs g mu nu = flatMap (λ r. flatMap (costOf g mu nu r) (parentTables (g .n) (g .n))) (tab (g .n) (λ r. r))
 
 -- "every other spanning tree of the patch, under any root, costs at least as much"
 unfoldable pub bestCost : Graph → (ℕ → ℕ) → (ℕ → ℕ) → ℕ

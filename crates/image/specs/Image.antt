@@ -73,8 +73,8 @@ abbrev pub amount : List ℕ → ℕ → ℕ → ℕ
 amount s t x = four s (offset s (t + 1) + 4 * x)
 
 -- the root and the parent of vertex x
-abbrev pub rootOf : List ℕ → ℕ
-rootOf s = at s (offset s (treeSection s))
+abbrev pub rootIn : List ℕ → ℕ
+rootIn s = at s (offset s (treeSection s))
 
-abbrev pub parentOf : List ℕ → ℕ → ℕ
-parentOf s x = at s (offset s (treeSection s) + 1 + x)
+abbrev pub parentIn : List ℕ → ℕ → ℕ
+parentIn s x = at s (offset s (treeSection s) + 1 + x)

@@ -1,2 +1,4 @@
 pub mod Passed
+pub mod AnswerCheck
+pub mod Told
 pub mod Answer

@@ -13,21 +13,21 @@ use Rattle.plan_rule.specs.Plan.{plan}
 use Rattle.tree_figures.specs.Figures.{potential, treeCost}
 use Rattle.duality.specs.Best.{Best}
 use Rattle.duality.specs.BestCost.{bestCost}
-use Rattle.image.specs.Image.{hasTree, vertexCount, edgeCount, lowerEnd, upperEnd, edgeLengthOf, amount, rootOf, parentOf}
+use Rattle.image.specs.Image.{hasTree, vertexCount, edgeCount, lowerEnd, upperEnd, edgeLengthOf, amount, rootIn, parentIn}
 use Rattle.image.specs.ImageChecks.{imageChecks}
 
 -- the graph of an image
-abbrev pub graphOf : List ℕ → Graph
-graphOf s =
+abbrev pub graphOfImage : List ℕ → Graph
+graphOfImage s =
     graph (vertexCount s) (tab (edgeCount s) (lowerEnd s)) (tab (edgeCount s) (upperEnd s)) (tab (edgeCount s) (edgeLengthOf s))
 
 -- "An image with a tree is weighed, one without gets the best answer": the checks of the one or the other; `room` is what is said of the
 -- buffer under 2
 abbrev pub answerChecks : List ℕ → Bool → List Check
 answerChecks s room =
-    imageChecks s room ++ (edgeChecks (graphOf s)
+    imageChecks s room ++ (edgeChecks (graphOfImage s)
     ++ (measureChecks (vertexCount s) (amount s 0) (amount s 1)
-    ++ cond (hasTree s) (treeChecks (graphOf s) (rootOf s) (parentOf s)) []))
+    ++ cond (hasTree s) (treeChecks (graphOfImage s) (rootIn s) (parentIn s)) []))
 
 unfoldable pub answerRefusal : List ℕ → Bool → ℕ
 answerRefusal s room = refusal (answerChecks s room)
@@ -38,15 +38,15 @@ imagePlan s root parent = plan (vertexCount s) root parent (amount s 0) (amount 
 
 -- "weighed": the cost and the potential of the tree of an image
 abbrev pub evaluatedCost : List ℕ → ℕ
-evaluatedCost s = treeCost (graphOf s) (rootOf s) (parentOf s) (amount s 0) (amount s 1)
+evaluatedCost s = treeCost (graphOfImage s) (rootIn s) (parentIn s) (amount s 0) (amount s 1)
 
 abbrev pub evaluatedPotential : List ℕ → ℕ → ℤ
-evaluatedPotential s = potential (graphOf s) (rootOf s) (parentOf s) (amount s 0) (amount s 1)
+evaluatedPotential s = potential (graphOfImage s) (rootIn s) (parentIn s) (amount s 0) (amount s 1)
 
 -- the best cost of an image
 abbrev pub imageBestCost : List ℕ → ℕ
-imageBestCost s = bestCost (graphOf s) (amount s 0) (amount s 1)
+imageBestCost s = bestCost (graphOfImage s) (amount s 0) (amount s 1)
 
 -- demand 3 of a tree with root 0 and the parents p, its plan, a potential u and the best cost
 abbrev pub BestAnswer : List ℕ → (ℕ → ℕ) → (ℕ → ℤ) → Type 0
-BestAnswer s p u = Best (graphOf s) (amount s 0) (amount s 1) p (imagePlan s 0 p) u (imageBestCost s)
+BestAnswer s p u = Best (graphOfImage s) (amount s 0) (amount s 1) p (imagePlan s 0 p) u (imageBestCost s)

@@ -8,7 +8,7 @@ use Rattle.arithmetic.specs.Sum.{pick}
 use Rattle.arithmetic.specs.Table.{tab, result, written}
 use Rattle.arithmetic.specs.Refusal.{refusal}
 use Rattle.image.specs.ImageChecks.{imageChecks, roomIn}
-use Rattle.image.specs.Image.{hasTree, vertexCount, edgeCount, lowerEnd, upperEnd, edgeLengthOf, amount, rootOf, parentOf}
+use Rattle.image.specs.Image.{hasTree, vertexCount, edgeCount, lowerEnd, upperEnd, edgeLengthOf, amount, rootIn, parentIn}
 
 -- the tables that the reader fills
 pub record Lists : Type 0 where
@@ -39,11 +39,11 @@ pub record Read (s : List ℕ) (t : Lists) (k n m root tree : ℕ) (t' : Lists) 
   pub refusal : k ≡ readRefusal s t
   pub n-is : n ≡ result k (vertexCount s)
   pub m-is : m ≡ result k (edgeCount s)
-  pub root-is : root ≡ result k (pick (hasTree s) (rootOf s))
+  pub root-is : root ≡ result k (pick (hasTree s) (rootIn s))
   pub tree-is : tree ≡ result k (pick (hasTree s) 1)
   pub lower-is : t' .lower ≡ written k (tab (edgeCount s) (lowerEnd s)) (t .lower)
   pub upper-is : t' .upper ≡ written k (tab (edgeCount s) (upperEnd s)) (t .upper)
   pub lengths-are : t' .lengths ≡ written k (tab (edgeCount s) (edgeLengthOf s)) (t .lengths)
   pub mu-is : t' .mu ≡ written k (tab (vertexCount s) (amount s 0)) (t .mu)
   pub nu-is : t' .nu ≡ written k (tab (vertexCount s) (amount s 1)) (t .nu)
-  pub parents-are : t' .parents ≡ written k (cond (hasTree s) (tab (vertexCount s) (parentOf s)) []) (t .parents)
+  pub parents-are : t' .parents ≡ written k (cond (hasTree s) (tab (vertexCount s) (parentIn s)) []) (t .parents)

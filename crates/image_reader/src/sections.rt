@@ -6,7 +6,7 @@ ghost use Prim.Native.Nat.{_+_, _*_, _≤_, _<_};
 ghost use lib.ListN.{length};
 ghost use Rattle.arithmetic.specs.Sum.{pick};
 ghost use Rattle.arithmetic.specs.Table.{tab, written};
-ghost use Rattle.image.specs.Image.{vertexCount, edgeCount, firstOffset, sectionCount, offset as offsetOf, lowerEnd, upperEnd, edgeLengthOf, amount, hasTree, rootOf, parentOf};
+ghost use Rattle.image.specs.Image.{vertexCount, edgeCount, firstOffset, sectionCount, offset as offsetOf, lowerEnd, upperEnd, edgeLengthOf, amount, hasTree, rootIn, parentIn};
 ghost use Rattle.image_reader.specs.Steps.Held.{Held};
 use image::TREE;
 use image::edge_count;
@@ -50,7 +50,7 @@ pub fn fill_parents(image: &[u8], parents: &mut [u32])
     requires { ⌜ Held (now image) ⌝ }
     requires { ⌜ vertexCount (now image) ≤ length (now parents) ⌝ }
     ensures { λ _. ⌜ now (parents .exit) ≡ written 0
-        (cond (hasTree (now (image .entry))) (tab (vertexCount (now (image .entry))) (parentOf (now (image .entry)))) [])
+        (cond (hasTree (now (image .entry))) (tab (vertexCount (now (image .entry))) (parentIn (now (image .entry)))) [])
         (now (parents .entry)) ⌝ }
 {
     if extent(image, TREE) != 0 {
@@ -67,7 +67,7 @@ pub fn fill_parents(image: &[u8], parents: &mut [u32])
 // The tree's root, or 0.
 pub fn root(image: &[u8]) -> usize
     requires { ⌜ Held (now image) ⌝ }
-    ensures { λ r. ⌜ r ≡ pick (hasTree (now (image .entry))) (rootOf (now (image .entry))) ⌝ }
+    ensures { λ r. ⌜ r ≡ pick (hasTree (now (image .entry))) (rootIn (now (image .entry))) ⌝ }
 {
     if extent(image, TREE) == 0 {
         return 0;

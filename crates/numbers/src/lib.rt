@@ -1,6 +1,6 @@
-// Two machine numbers: the smaller, how far they are apart, and their difference.
+// Two machine numbers: the smaller, how far they are apart, and their differences.
 ghost use mathlib.Core.Path.{_≡_};
-ghost use Prim.Native.Nat.{_^_, _<_, min};
+ghost use Prim.Native.Nat.{_-_, _^_, _<_, min};
 ghost use lib.IntN.{subℕ};
 ghost use Rattle.arithmetic.specs.Steps.Product.{gap};
 
@@ -18,7 +18,14 @@ pub fn gap(a: u64, b: u64) -> u64
     if a < b { b - a } else { a - b }
 }
 
-// a − b
+// a − b, or 0 where b is larger
+pub fn monus(a: u64, b: u64) -> u64
+    ensures { λ r. ⌜ r ≡ a - b ⌝ }
+{
+    if b < a { a - b } else { 0 }
+}
+
+// a − b, with its sign
 pub fn difference(a: u64, b: u64) -> i32
     requires { ⌜ (a < 2 ^ 31) × (b < 2 ^ 31) ⌝ }
     ensures { λ r. ⌜ r ≡ subℕ a b ⌝ }

@@ -6,7 +6,7 @@ ghost use lib.IntN.{subℕ};
 ghost use lib.ListN.{length, drop};
 ghost use Rattle.arithmetic.specs.Table.{at, tab};
 ghost use Rattle.graph.specs.Graph.{graph};
-ghost use Rattle.tree_walks.specs.Steps.Sums.{Within};
+ghost use Rattle.arithmetic.specs.Steps.Table.{EachBelow};
 ghost use Rattle.optimal_transport.specs.Solve.{Solved};
 use network_simplex::search::best_tree;
 use numbers::difference;
@@ -31,7 +31,7 @@ fn write_parents(tree: Tree, parents: &mut [u32])
 // Fills in a potential, less that of vertex 0.
 fn write_potential(n: usize, u: &[u32], potential: &mut [i32])
     requires { ⌜ (n ≤ length (now u)) × (n ≤ length (now potential)) ⌝ }
-    requires small { ⌜ Within n (at (now u)) (2 ^ 24) ⌝ }
+    requires small { ⌜ EachBelow n (at (now u)) (2 ^ 24) ⌝ }
     ensures { λ _. ⌜ now (potential .exit) ≡ tab n (λ y. subℕ (at (now (u .entry)) y) (at (now (u .entry)) 0)) ++ drop n (now (potential .entry)) ⌝ }
 {
     let mut y: usize = 0;

@@ -39,8 +39,8 @@ fn least_cost(
     lengths: &[u32],
     mu: &[u64],
     nu: &[u64],
-    first: &mut [u32],
-    edge: &[u32],
+    first: &mut [u32; 64],
+    edge: &[u32; 64],
 ) -> u64
     requires { ⌜ TransportProblem (graph n (now a) (now b) (now lengths)) (now mu) (now nu)
         × (EdgeTree (graph n (now a) (now b) (now lengths)) 0 (now first) (now edge) × ((length (now first) ≡ 64) × (length (now edge) ≡ 64))) ⌝ }

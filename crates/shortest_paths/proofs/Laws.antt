@@ -1,3 +1,2 @@
-pub mod Connecting
 pub mod ShortestPath
 pub mod Labelling

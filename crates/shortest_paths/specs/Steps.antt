@@ -1,4 +1,3 @@
 pub mod Weight
 pub mod ShortestPathTree
 pub mod Labels
-pub mod Checked

@@ -7,7 +7,7 @@ ghost use lib.Dec.{ltb};
 ghost use Rattle.arithmetic.specs.Bools.{all};
 ghost use Rattle.arithmetic.specs.Table.{at};
 ghost use Rattle.shortest_paths.specs.Steps.Weight.{weightOf, unreached};
-ghost use Rattle.shortest_paths.specs.Steps.Labels.{SomeLabelled, Cleared, CanRelax, Relaxed, SweepsUp, SweepsDown, FeasibleUp, Rounds};
+ghost use Rattle.shortest_paths.specs.Steps.Labels.{SomeLabelled, Initialized, CanRelax, Relaxed, SweepsUp, SweepsDown, FeasibleUp, Rounds};
 
 // The label of a vertex that is not reached: more than any path of a tree weighs.
 const UNREACHED: u32 = 1 << 30;
@@ -21,9 +21,9 @@ pub fn weight(long: u32) -> u32
 }
 
 // The start alone is reached.
-pub fn clear(start: usize, parents: &mut [u32], labels: &mut [u32])
+pub fn initialize(start: usize, parents: &mut [u32], labels: &mut [u32])
     requires { ⌜ (start < 64) × ((64 ≤ length (now parents)) × (64 ≤ length (now labels))) ⌝ }
-    ensures { λ _. ⌜ Cleared start (now (parents .entry)) (now (labels .entry)) (now (parents .exit)) (now (labels .exit)) ⌝ }
+    ensures { λ _. ⌜ Initialized start (now (parents .entry)) (now (labels .entry)) (now (parents .exit)) (now (labels .exit)) ⌝ }
 {
     for v in 0..64 {
         parents[v] = start as u32;

@@ -3,21 +3,15 @@ ghost use mathlib.Core.Path.{_≡_};
 ghost use Prim.Native.Nat.{_≤_};
 ghost use lib.ListN.{length};
 ghost use Rattle.graph.specs.Graph.{graph};
-ghost use Rattle.spanning_tree.specs.Given.{given, tablesOk, answersOk};
+ghost use Rattle.spanning_tree.specs.Given.{given, parentsLong, answersOk};
 ghost use Rattle.spanning_tree.specs.Steps.Given.{GivenChecked};
 use graph::edges;
 use tree_checks::checks;
 
-// paintings and parents are n long, and the answer tables are fine
-fn tables_fit(n: usize, mu: &[u64], nu: &[u64], parents: &[u32], answers: bool) -> bool
-    ensures { λ r. ⌜ r ≡ tablesOk n (now (mu .entry)) (now (nu .entry)) (now (parents .entry)) answers ⌝ }
+// the parents are n long, and the answer tables are fine
+fn parents_fit(n: usize, parents: &[u32], answers: bool) -> bool
+    ensures { λ r. ⌜ r ≡ parentsLong n (now (parents .entry)) answers ⌝ }
 {
-    if mu.len() != n {
-        return false;
-    }
-    if nu.len() != n {
-        return false;
-    }
     if parents.len() != n {
         return false;
     }
@@ -45,12 +39,8 @@ pub fn given_refusal(
         (given (now (mu .entry)) (now (nu .entry)) root (now (parents .entry))) answers k (now (above .entry)) (now (above .exit))
         (now (first .exit)) (now (edge .exit)) ⌝ }
 {
-    let tables = tables_fit(n, mu, nu, parents, answers);
-    let k = shortest_paths::check(n, a, b, lengths, tables, first, edge);
-    if k != 0 {
-        return k;
-    }
-    let k = measures::measures_refusal(n, mu, nu);
+    let tables = parents_fit(n, parents, answers);
+    let k = transport_problem::check(n, a, b, lengths, mu, nu, tables, first, edge);
     if k != 0 {
         return k;
     }

@@ -38,7 +38,7 @@ pub fn check(
         (now (first .exit)) (now (edge .exit)) ⌝ }
 {
     let fits = measures_fit(n, mu, nu, tables);
-    let k = shortest_paths::check(n, a, b, lengths, fits, first, edge);
+    let k = graph_checks::check(n, a, b, lengths, fits, first, edge);
     if k != 0 {
         return k;
     }

@@ -10,7 +10,7 @@ ghost use Rattle.arithmetic.specs.Sum.{pick};
 ghost use Rattle.arithmetic.specs.Steps.Product.{gap};
 ghost use Rattle.arithmetic.specs.Table.{at, tab};
 ghost use Rattle.rooted_tree.specs.Steps.Rooted.{Rooted};
-ghost use Rattle.tree_walks.specs.Steps.Sums.{Within};
+ghost use Rattle.arithmetic.specs.Steps.Table.{EachBelow};
 ghost use Rattle.tree_figures.specs.Steps.Tables.{Short, Moderate, costFrom, rises, falls, potentialFrom};
 use numbers::difference;
 use numbers::gap;
@@ -18,7 +18,7 @@ use numbers::gap;
 // the imbalance of each vertex
 pub fn write_imbalance(n: usize, supply: &[u64], demand: &[u64], out: &mut [i32])
     requires { ⌜ (n ≤ length (now supply)) × ((n ≤ length (now demand)) × (n ≤ length (now out))) ⌝ }
-    requires masses { ⌜ Within n (at (now supply)) (2 ^ 31) × Within n (at (now demand)) (2 ^ 31) ⌝ }
+    requires masses { ⌜ EachBelow n (at (now supply)) (2 ^ 31) × EachBelow n (at (now demand)) (2 ^ 31) ⌝ }
     ensures { λ _. ⌜ now (out .exit) ≡ tab n (λ x. subℕ (at (now (supply .entry)) x) (at (now (demand .entry)) x)) ++ drop n (now (out .entry)) ⌝ }
 {
     let mut x: usize = 0;
@@ -40,7 +40,7 @@ fn edge_cost(inner: bool, l: u32, a: u64, b: u64) -> u64
 pub fn tree_cost(n: usize, root: usize, above: &[u32], supply: &[u64], demand: &[u64]) -> u64
     requires { ⌜ (n ≤ 64) × ((n ≤ length (now above)) × ((n ≤ length (now supply)) × (n ≤ length (now demand)))) ⌝ }
     requires lengths { ⌜ Short n root (at (now above)) ⌝ }
-    requires masses { ⌜ Within n (at (now supply)) (2 ^ 31) × Within n (at (now demand)) (2 ^ 31) ⌝ }
+    requires masses { ⌜ EachBelow n (at (now supply)) (2 ^ 31) × EachBelow n (at (now demand)) (2 ^ 31) ⌝ }
     ensures { λ r. ⌜ r ≡ costFrom n root (at (now (above .entry))) (at (now (supply .entry))) (at (now (demand .entry))) ⌝ }
 {
     let mut cost: u64 = 0;

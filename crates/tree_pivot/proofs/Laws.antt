@@ -1,9 +1,9 @@
 pub mod Pivot
-pub mod PathReversal
 pub mod PivotCost
 pub mod PathWalk
 pub mod PivotTables
-pub mod PivotPotential
-pub mod PivotTotals
 pub mod SubtreeMasks
+pub mod PathReversal
+pub mod PivotPotential
 pub mod PivotBasis
+pub mod PivotTotals

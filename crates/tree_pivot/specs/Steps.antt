@@ -1,8 +1,9 @@
 pub mod Pivot
-pub mod PathReversal
 pub mod PivotCost
-pub mod Basis
 pub mod PathWalk
 pub mod PivotTables
+pub mod SubtreeMasks
+pub mod Basis
+pub mod PathReversal
 pub mod PivotPotential
 pub mod PivotBasis

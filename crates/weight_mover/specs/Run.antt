@@ -8,7 +8,7 @@ use lib.Dec.{leb}
 use lib.IntN.{ℤ}
 use Rattle.arithmetic.specs.Table.{at, matrix, written}
 use Rattle.plan_rule.specs.Plan.{moves}
-use Rattle.image.specs.Image.{hasTree, vertexCount, rootOf, parentOf}
+use Rattle.image.specs.Image.{hasTree, vertexCount, rootIn, parentIn}
 use Rattle.host_record.specs.Record.{recordBytes, recordSize}
 use Rattle.image_answer.specs.ImageAnswer.{answerRefusal, imagePlan, evaluatedCost, evaluatedPotential, imageBestCost, BestAnswer}
 
@@ -28,7 +28,7 @@ planRecord s cost root parent u =
 
 -- the record of an image with a tree
 unfoldable pub evaluatedRecord : List ℕ → List ℕ
-evaluatedRecord s = planRecord s (evaluatedCost s) (rootOf s) (parentOf s) (evaluatedPotential s)
+evaluatedRecord s = planRecord s (evaluatedCost s) (rootIn s) (parentIn s) (evaluatedPotential s)
 
 -- the record of a best answer
 abbrev pub bestRecord : List ℕ → (ℕ → ℕ) → (ℕ → ℤ) → List ℕ

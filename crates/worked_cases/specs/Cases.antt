@@ -3,7 +3,7 @@ use mathlib.Core.List.{List, [], _∷_}
 use lib.IntN.{pos, negsuc}
 use Rattle.graph.specs.Graph.{graph}
 use Rattle.spanning_tree.specs.Given.{given}
-use Rattle.worked_cases.specs.Figures.{Case, Certificate, Bytes, silent, said}
+use Rattle.worked_cases.specs.Figures.{Case, BestFigures, Bytes, silent, said}
 
 -- A: a line; the plan is that of the listing
 abbrev pub a : Case
@@ -21,7 +21,7 @@ a = record {
 }
 
 -- B's best answer
-abbrev pub certificate-b : Certificate
+abbrev pub certificate-b : BestFigures
 certificate-b = record { parents = (0 ∷ 0 ∷ 1 ∷ 0 ∷ []); potentials = (pos 0 ∷ pos 0 ∷ pos 0 ∷ negsuc 0 ∷ []); cost = 4 }
 
 -- B: a ring; the tree given is not the best

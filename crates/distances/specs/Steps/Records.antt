@@ -19,8 +19,8 @@ noEdge = record { a = 0; b = 0; length = 0 }
 abbrev pub column : (EdgeRecord → ℕ) → List EdgeRecord → ℕ → List ℕ
 column f es m = tab m (λ i. f (getD es i noEdge)) ++ drop m (replicate 512 0)
 
-abbrev pub taken : List EdgeRecord → ℕ → Columns
-taken es m = record { a = column lowerOf es m; b = column upperOf es m; lengths = column lengthOf es m }
+abbrev pub columnsOf : List EdgeRecord → ℕ → Columns
+columnsOf es m = record { a = column lowerOf es m; b = column upperOf es m; lengths = column lengthOf es m }
 
 pub record Full (c : Columns) : Type 0 where
   pub lower : length (c .a) ≡ 512

@@ -19,7 +19,7 @@ use Rattle.tree_checks.specs.Checks.{treeChecks}
 use Rattle.tree_checks.proofs.Laws.TreeTests.{spanning-into, spanning-accepted, accepted-spanning}
 use Rattle.tree_figures.specs.Figures.{treeCost}
 use Rattle.duality.specs.Best.{Plan, planCost, LeastTree, LeastPlan, Best}
-use Rattle.duality.specs.BestCost.{least, tables, costOf, costs, bestCost}
+use Rattle.duality.specs.BestCost.{least, parentTables, costOf, costs, bestCost}
 use Rattle.duality.proofs.Laws.Agree.{Same, same-tree, treeCost-same, tree-same}
 
 -- ---- lists
@@ -68,11 +68,11 @@ least-in (x ∷ z ∷ l) h =
     (λ h. List·Memᴰ·tail (Memᴰ·cast (omega arith) (least-in (z ∷ l) (List·Memᴰ·head refl))))
 
 -- the first k values of p, if they are below n, are one of the tables
-tables-in : (n k : ℕ) (p : ℕ → ℕ) → ((x : ℕ) → x < k → p x < n) → In (tab k p) (tables n k)
-unfolding tables tab
+tables-in : (n k : ℕ) (p : ℕ → ℕ) → ((x : ℕ) → x < k → p x < n) → In (tab k p) (parentTables n k)
+unfolding parentTables tab
 tables-in n zero p h = List·Memᴰ·head refl
 tables-in n (suc k) p h =
-    flatMap-in (λ t. tab n (λ v. t ++ (v ∷ []))) (tables n k) (tables-in n k p (λ x l. h x (omega arith)))
+    flatMap-in (λ t. tab n (λ v. t ++ (v ∷ []))) (parentTables n k) (tables-in n k p (λ x l. h x (omega arith)))
     (tab-in n (λ v. tab k p ++ (v ∷ [])) (p k) (h k (omega arith)))
 
 -- ---- trees
@@ -88,8 +88,8 @@ module _ (g : Graph) (mu nu : ℕ → ℕ) where
   costs-from : {c : ℕ} → In c (costs g mu nu) → TreeOfCost g mu nu c
   unfolding costs
   costs-from h =
-      let r = flatMap-from (λ r. flatMap (costOf g mu nu r) (tables (g .n) (g .n))) (tab (g .n) (λ r. r)) h in
-      let t = flatMap-from (costOf g mu nu (r .0)) (tables (g .n) (g .n)) (r .1) in
+      let r = flatMap-from (λ r. flatMap (costOf g mu nu r) (parentTables (g .n) (g .n))) (tab (g .n) (λ r. r)) h in
+      let t = flatMap-from (costOf g mu nu (r .0)) (parentTables (g .n) (g .n)) (r .1) in
       case (eqb (refusal (treeChecks g (r .0) (at (t .0)))) 0)
       (λ e. record {
         root = r .0;
@@ -107,8 +107,8 @@ module _ (g : Graph) (mu nu : ℕ → ℕ) where
         let into = spanning-into g r p (acc .edges) t in
         let same : Same (g .n) p (at (tab (g .n) p)) = λ x l. sym (tab-at (g .n) p 0 x l) in
         let fine : refusal (treeChecks g r (at (tab (g .n) p))) ≡ 0 = sym (tree-same g r same) ∙ spanning-accepted g r p (acc .edges) t in
-        flatMap-in (λ r. flatMap (costOf g mu nu r) (tables (g .n) (g .n))) (tab (g .n) (λ r. r)) (tab-in (g .n) (λ r. r) r (t .root))
-        (flatMap-in (costOf g mu nu r) (tables (g .n) (g .n)) (tables-in (g .n) (g .n) p into)
+        flatMap-in (λ r. flatMap (costOf g mu nu r) (parentTables (g .n) (g .n))) (tab (g .n) (λ r. r)) (tab-in (g .n) (λ r. r) r (t .root))
+        (flatMap-in (costOf g mu nu r) (parentTables (g .n) (g .n)) (tables-in (g .n) (g .n) p into)
         (rw fine (List·Memᴰ·head (treeCost-same g (same-tree same into r) (λ x l. refl) (λ x l. refl)))))
 
     -- what the best cost is: some spanning tree has it,

@@ -2,7 +2,7 @@
 -- a subtree's surplus has the sign of the true one, or the true one is 0.
 use Prim.Native.Nat.{ℕ, _+_, _-_, _*_, _≤_, _<_}
 use mathlib.Core.Path.{_≡_, refl, sym, ap, _∙_}
-use mathlib.Core.Bool.{Bool, true, false, not}
+use mathlib.Core.Bool.{Bool, true, false, cond}
 use mathlib.Core.Logic.{inl, inr, ⊎-elim}
 use native.Mathlib.Omega.{arith}
 use lib.Dec.{eqb}
@@ -10,7 +10,7 @@ use borrow.Author.Tests.{ne-eqb}
 use Rattle.arithmetic.specs.Sum.{pick, sum}
 use Rattle.arithmetic.specs.Steps.Product.{Agrees}
 use Rattle.arithmetic.proofs.Laws.Bools.{case≡, is-false}
-use Rattle.arithmetic.proofs.Laws.Sum.{pick-zero, pick-le, sum-ext, sum-le, sum-add, sum-mul, sum-ge, sum-one, sum-only, sum-change, sum-zeros}
+use Rattle.arithmetic.proofs.Laws.Sum.{pick-zero, pick-le, sum-ext, sum-le, sum-add, sum-mul, sum-ge, sum-one, sum-change, sum-zero, sum-zeros}
 use Rattle.rooted_tree.specs.Chain.{below}
 use Rattle.rooted_tree.specs.Steps.Rooted.{Rooted}
 use Rattle.rooted_tree.specs.Steps.Subtotal.{subtotal}
@@ -18,26 +18,27 @@ use Rattle.rooted_tree.proofs.Laws.Rooted.{refl-b, root-b}
 use Rattle.first_basis.specs.Steps.Perturbed.{supplyOf, demandOf}
 
 -- a grain at each vertex but 0
-others : (n : ℕ) → 0 < n → sum n (λ y. pick (not (eqb y 0)) 1) + 1 ≡ n
+others : (n : ℕ) → 0 < n → sum n (λ y. cond (eqb y 0) 0 1) + 1 ≡ n
 others n h =
     omega (
       arith,
-      sum-change n 0 (λ y. pick (not (eqb y 0)) 1) (λ _. 1) h (λ y l d. rw (ne-eqb y 0 d)),
+      sum-change n 0 (λ y. cond (eqb y 0) 0 1) (λ _. 1) h (λ y l d. rw (ne-eqb y 0 d)),
       sum-one n,
     )
 
 module _ (n : ℕ) (some : 0 < n) where
   pub supply-total : (mu : ℕ → ℕ) → sum n (supplyOf mu) + 1 ≡ 64 * sum n mu + n
   supply-total mu =
-      omega (arith, sum-add n (λ y. 64 * mu y) (λ y. pick (not (eqb y 0)) 1), sum-mul n 64 mu, others n some)
+      omega (arith, sum-add n (λ y. 64 * mu y) (λ y. cond (eqb y 0) 0 1), sum-mul n 64 mu, others n some)
 
   pub demand-total : (nu : ℕ → ℕ) → sum n (demandOf n nu) + 1 ≡ 64 * sum n nu + n
   demand-total nu =
       omega (
         arith,
-        sum-add n (λ y. 64 * nu y) (λ y. pick (eqb y 0) (n - 1)),
+        sum-add n (λ y. 64 * nu y) (λ y. cond (eqb y 0) (n - 1) 0),
         sum-mul n 64 nu,
-        sum-only n 0 (λ _. n - 1) some,
+        sum-change n 0 (λ y. cond (eqb y 0) (n - 1) 0) (λ _. 0) some (λ y l d. rw (ne-eqb y 0 d)),
+        sum-zero n,
       )
 
 module _ {n : ℕ} {p : ℕ → ℕ} (t : Rooted n 0 p) (few : n ≤ 64) (x : ℕ) (low : x < n) (inner : x ≡ 0 → ⊥) where
@@ -61,16 +62,16 @@ module _ {n : ℕ} {p : ℕ → ℕ} (t : Rooted n 0 p) (few : n ≤ 64) (x : �
 
   -- how many vertices are below x
   size : ℕ
-  size = sum n (λ y. pick (below p n y x) (pick (not (eqb y 0)) 1))
+  size = sum n (λ y. pick (below p n y x) (cond (eqb y 0) 0 1))
 
   size-some : 0 < size
   unfolding size
   size-some =
       omega (
         arith,
-        sum-ge n x (λ y. pick (below p n y x) (pick (not (eqb y 0)) 1)) low,
-        ap (λ (b : Bool). pick b (pick (not (eqb x 0)) 1)) (refl-b t x low),
-        ap (λ (b : Bool). pick (not b) 1) (ne-eqb x 0 inner),
+        sum-ge n x (λ y. pick (below p n y x) (cond (eqb y 0) 0 1)) low,
+        ap (λ (b : Bool). pick b (cond (eqb x 0) 0 1)) (refl-b t x low),
+        ap {B = ℕ} (λ (b : Bool). cond b 0 1) (ne-eqb x 0 inner),
       )
 
   size-few : size < 64
@@ -78,20 +79,20 @@ module _ {n : ℕ} {p : ℕ → ℕ} (t : Rooted n 0 p) (few : n ≤ 64) (x : �
   size-few =
       omega (
         arith,
-        sum-le n (λ y. pick (below p n y x) (pick (not (eqb y 0)) 1)) (λ y. pick (not (eqb y 0)) 1) (λ y l. pick-le (below p n y x) _),
+        sum-le n (λ y. pick (below p n y x) (cond (eqb y 0) 0 1)) (λ y. cond (eqb y 0) 0 1) (λ y l. pick-le (below p n y x) _),
         others n (omega arith),
       )
 
   supply-below : (mu : ℕ → ℕ) → subtotal p n (supplyOf mu) x ≡ 64 * subtotal p n mu x + size
   unfolding size
-  supply-below mu = scaled mu (λ y. pick (not (eqb y 0)) 1)
+  supply-below mu = scaled mu (λ y. cond (eqb y 0) 0 1)
 
   demand-below : (nu : ℕ → ℕ) → subtotal p n (demandOf n nu) x ≡ 64 * subtotal p n nu x
   demand-below nu =
       omega (
         arith,
-        scaled nu (λ y. pick (eqb y 0) (n - 1)),
-        sum-zeros n (λ y. pick (below p n y x) (pick (eqb y 0) (n - 1))) (λ y l.
+        scaled nu (λ y. cond (eqb y 0) (n - 1) 0),
+        sum-zeros n (λ y. pick (below p n y x) (cond (eqb y 0) (n - 1) 0)) (λ y l.
             case≡ y 0
             (λ e. rw (e, is-false (below p n 0 x) (λ h. inner (sym (root-b t x h)))))
             (λ d. rw (ne-eqb y 0 d) (pick-zero (below p n y x)))),

@@ -5,6 +5,8 @@ use mathlib.Core.List.{List}
 use lib.ListN.{length}
 use Rattle.arithmetic.specs.Sum.{sum}
 use Rattle.arithmetic.specs.Table.{at}
+use Rattle.arithmetic.specs.Mask.{mask}
+use Rattle.rooted_tree.specs.Chain.{below}
 use Rattle.rooted_tree.specs.Steps.Rooted.{Rooted}
 use Rattle.graph.specs.Graph.{Graph, graph}
 use Rattle.graph.specs.Steps.Accepted.{Accepted}
@@ -15,8 +17,8 @@ use Rattle.graph.specs.Steps.EdgeTree.{EdgeTree}
 -- every vertex but 0 has an edge
 pub record CanMeasure (n : ℕ) (lengths edge out : List ℕ) : Type 0 where
   pub some : 0 < n
-  pub edge-size : n ≤ length edge
-  pub out-size : n ≤ length out
+  pub few : n ≤ 64
+  pub out-size : length out ≡ 64
   pub number : (x : ℕ) → x < n → (x ≡ 0 → ⊥) → at edge x < length lengths
 
 -- the vertices before k, but 0, have the lengths of their edges
@@ -25,21 +27,26 @@ pub record LengthsAbove (lengths edge old new : List ℕ) (k : ℕ) : Type 0 whe
   pub done : (x : ℕ) → x < k → (x ≡ 0 → ⊥) → at new x ≡ at lengths (at edge x)
 
 -- ---- the perturbed masses
-pub record CanPerturb (n : ℕ) (mass out : List ℕ) : Type 0 where
-  pub some : 0 < n
+pub record CanPerturb (n first rest : ℕ) (masses out : List ℕ) : Type 0 where
   pub few : n ≤ 64
-  pub mass-size : n ≤ length mass
-  pub out-size : n ≤ length out
-  pub small : (y : ℕ) → y < n → at mass y ≤ 2 ^ 24
+  pub first-few : first ≤ 64
+  pub rest-few : rest ≤ 64
+  pub masses-size : n ≤ length masses
+  pub out-size : length out ≡ 64
+  pub light : sum n (at masses) ≤ 2 ^ 24
+
+-- the mask of the subtree of x
+abbrev pub subtreeMask : ℕ → (ℕ → ℕ) → ℕ → ℕ
+subtreeMask n p x = mask n (λ y. below p n y x)
 
 pub record CanWeigh (n : ℕ) (parents mu nu supply demand masks : List ℕ) : Type 0 where
   pub few : n ≤ 64
-  pub parents-size : n ≤ length parents
+  pub parents-size : length parents ≡ 64
   pub mu-size : n ≤ length mu
   pub nu-size : n ≤ length nu
-  pub supply-size : n ≤ length supply
-  pub demand-size : n ≤ length demand
-  pub masks-size : n ≤ length masks
+  pub supply-size : length supply ≡ 64
+  pub demand-size : length demand ≡ 64
+  pub masks-size : length masks ≡ 64
   pub tree : Rooted n 0 (at parents)
   pub mu-light : sum n (at mu) ≤ 2 ^ 24
   pub nu-light : sum n (at nu) ≤ 2 ^ 24
@@ -62,11 +69,3 @@ pub record StartInput (n : ℕ) (lengths mu nu parents edge : List ℕ) : Type 0
   pub a : List ℕ
   pub b : List ℕ
   pub can : CanStart (graph n a b lengths) mu nu parents edge
-
--- the tables have 64 places each
-pub record Places (above supply demand masks potential : List ℕ) : Type 0 where
-  pub above-size : length above ≡ 64
-  pub supply-size : length supply ≡ 64
-  pub demand-size : length demand ≡ 64
-  pub masks-size : length masks ≡ 64
-  pub potential-size : length potential ≡ 64

@@ -15,14 +15,14 @@ use Rattle.tree_checks.specs.Checks.{treeChecks}
 use Rattle.measures.specs.Checks.{measureChecks}
 use Rattle.measures.proofs.Laws.Totals.{equal-in}
 use Rattle.duality.proofs.Laws.Agree.{parents-into}
-use Rattle.image.specs.Image.{hasTree, vertexCount, edgeCount, lowerEnd, upperEnd, edgeLengthOf, amount, rootOf, parentOf}
+use Rattle.image.specs.Image.{hasTree, vertexCount, edgeCount, lowerEnd, upperEnd, edgeLengthOf, amount, rootIn, parentIn}
 use Rattle.image.specs.ImageChecks.{imageChecks}
 use Rattle.image.proofs.Laws.ImageCheck.{well-formed, images-numbered}
-use Rattle.image_answer.specs.ImageAnswer.{graphOf, answerRefusal}
+use Rattle.image_answer.specs.ImageAnswer.{graphOfImage, answerRefusal}
 use Rattle.image_answer.specs.Steps.Answered.{answerRoot}
 
 -- the lists of an image's graph have the lengths that check 2 asks for
-pub lists-read : (s : List ℕ) → edgeCount s ≤ 512 → listsOk (graphOf s) ≡ true
+pub lists-read : (s : List ℕ) → edgeCount s ≤ 512 → listsOk (graphOfImage s) ≡ true
 unfolding listsFit
 lists-read s h = rw (
   length-tab (edgeCount s) (lowerEnd s),
@@ -34,26 +34,26 @@ lists-read s h = rw (
 
 pub record Passed (s : List ℕ) (fits : Bool) : Type 0 where
   pub fitting : fits ≡ true
-  pub accepted : Accepted (graphOf s)
+  pub accepted : Accepted (graphOfImage s)
   pub few : vertexCount s ≤ 64
   pub same : sum (vertexCount s) (amount s 0) ≡ sum (vertexCount s) (amount s 1)
   -- check 8
   pub root : answerRoot s < vertexCount s
-  pub parents : hasTree s ≡ true → (x : ℕ) → x < vertexCount s → parentOf s x < vertexCount s
+  pub parents : hasTree s ≡ true → (x : ℕ) → x < vertexCount s → parentIn s x < vertexCount s
 
 pub passed : (s : List ℕ) (fits : Bool) → answerRefusal s fits ≡ 0 → Passed s fits
 unfolding answerRefusal edgeChecks measureChecks treeChecks testOf numbered
 passed s fits h =
     let image = both-pass (imageChecks s fits) _ (images-numbered s fits) h in
     let read = well-formed s fits (image .0) in
-    let graph = both-pass (edgeChecks (graphOf s)) _ refl (image .1) in
-    let k = every-holds (edgeChecks (graphOf s)) refl (graph .0) in
+    let graph = both-pass (edgeChecks (graphOfImage s)) _ refl (image .1) in
+    let k = every-holds (edgeChecks (graphOfImage s)) refl (graph .0) in
     let measures = both-pass (measureChecks (vertexCount s) (amount s 0) (amount s 1)) _ refl (graph .1) in
     let v = vertices-in (vertexCount s) (read .0 .vertices) in
-    let tree : hasTree s ≡ true → (rootOf s < vertexCount s) × ((x : ℕ) → x < vertexCount s → parentOf s x < vertexCount s)
+    let tree : hasTree s ≡ true → (rootIn s < vertexCount s) × ((x : ℕ) → x < vertexCount s → parentIn s x < vertexCount s)
     = λ e.
-    let eight = every-holds (treeChecks (graphOf s) (rootOf s) (parentOf s)) refl (rw e at (measures .1)) 8 in
-    parents-into (graphOf s) (rootOf s) (λ x l. refl) eight in
+    let eight = every-holds (treeChecks (graphOfImage s) (rootIn s) (parentIn s)) refl (rw e at (measures .1)) 8 in
+    parents-into (graphOfImage s) (rootIn s) (λ x l. refl) eight in
     record {
       fitting = read .1;
       accepted = record { vertices = read .0 .vertices; lists = lists-read s (read .0 .edges); edges = k 3; lengths = k 4; connected = k 5 };

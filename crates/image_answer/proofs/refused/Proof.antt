@@ -1,7 +1,7 @@
 -- `refused` meets its contract.
 use mathlib.Core.Path.{refl}
 use Rattle.arithmetic.specs.Table.{tab}
-use Rattle.image_answer.proofs.Laws.Answer.{tell-none}
+use Rattle.image_answer.proofs.Laws.Told.{tell-none}
 use Rattle.image_answer.proofs.refused.Statement.{statement}
 use Rattle.image_answer.proofs.refused.Tie as tie
 

@@ -1,5 +1,5 @@
 -- `tell` meets its contract.
-use Rattle.image_answer.proofs.Laws.Answer.{tell-refused, tell-made}
+use Rattle.image_answer.proofs.Laws.Told.{tell-refused, tell-made}
 use Rattle.image_answer.proofs.tell.Statement.{statement}
 use Rattle.image_answer.proofs.tell.Tie as tie
 

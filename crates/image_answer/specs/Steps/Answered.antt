@@ -9,7 +9,7 @@ use Rattle.arithmetic.specs.Sum.{pick}
 use Rattle.arithmetic.specs.Table.{tab, matrix, written}
 use Rattle.spanning_tree.specs.TreeValue.{parentsHeld}
 use Rattle.plan_rule.specs.Plan.{moves}
-use Rattle.image.specs.Image.{hasTree, vertexCount, rootOf, parentOf}
+use Rattle.image.specs.Image.{hasTree, vertexCount, rootIn, parentIn}
 use Rattle.image_answer.specs.ImageAnswer.{answerRefusal, imagePlan, evaluatedCost, evaluatedPotential, imageBestCost, BestAnswer}
 
 -- "An image with a tree is weighed, one without gets the best answer": the cost, the root and the parents of its tree, the potential and
@@ -18,10 +18,10 @@ abbrev pub answerCost : List ℕ → ℕ
 answerCost s = cond (hasTree s) (evaluatedCost s) (imageBestCost s)
 
 abbrev pub answerRoot : List ℕ → ℕ
-answerRoot s = pick (hasTree s) (rootOf s)
+answerRoot s = pick (hasTree s) (rootIn s)
 
 abbrev pub answerParent : List ℕ → (ℕ → ℕ) → ℕ → ℕ
-answerParent s p = cond (hasTree s) (parentOf s) p
+answerParent s p = cond (hasTree s) (parentIn s) p
 
 abbrev pub answerPotential : List ℕ → (ℕ → ℤ) → ℕ → ℤ
 answerPotential s u = cond (hasTree s) (evaluatedPotential s) u

@@ -9,7 +9,7 @@ use Rattle.arithmetic.specs.Sum.{pick}
 use Rattle.arithmetic.specs.Table.{at, tab, written}
 use Rattle.arithmetic.proofs.Laws.Table.{tab-ext}
 use Rattle.little_endian.specs.LittleEndian.{two, four}
-use Rattle.image.specs.Image.{vertexCount, edgeCount, offset, extent, treeSection, hasTree, lowerEnd, upperEnd, edgeLengthOf, amount, rootOf, parentOf}
+use Rattle.image.specs.Image.{vertexCount, edgeCount, offset, extent, treeSection, hasTree, lowerEnd, upperEnd, edgeLengthOf, amount, rootIn, parentIn}
 
 -- a loop's table of c numbers f is the answer's table of m numbers g
 listed : (c m : ℕ) (f g : ℕ → ℕ) (l out : List ℕ) → c ≡ m → ((e : ℕ) → f e ≡ g e) → out ≡ written 0 (tab c f) l
@@ -45,16 +45,16 @@ module _ (s : List ℕ) where
 
     pub parents-filled : (y ≡ 0 → ⊥) → (n x : ℕ) → n ≡ vertexCount s → x ≡ offset s (treeSection s) → (l out : List ℕ)
         → out ≡ written 0 (tab n (λ e. at s (x + 1 + 1 * e))) l
-        → out ≡ written 0 (cond (hasTree s) (tab (vertexCount s) (parentOf s)) []) l
+        → out ≡ written 0 (cond (hasTree s) (tab (vertexCount s) (parentIn s)) []) l
     parents-filled h n x en ex l out k =
         rw (has h)
-        (listed n _ _ (parentOf s) l out en (λ e. let z : x + 1 + 1 * e ≡ offset s (treeSection s) + 1 + e = omega arith in ap (λ (k : ℕ). at s k) z) k)
+        (listed n _ _ (parentIn s) l out en (λ e. let z : x + 1 + 1 * e ≡ offset s (treeSection s) + 1 + e = omega arith in ap (λ (k : ℕ). at s k) z) k)
 
-    pub parents-kept : y ≡ 0 → (l : List ℕ) → l ≡ written 0 (cond (hasTree s) (tab (vertexCount s) (parentOf s)) []) l
+    pub parents-kept : y ≡ 0 → (l : List ℕ) → l ≡ written 0 (cond (hasTree s) (tab (vertexCount s) (parentIn s)) []) l
     parents-kept h l = rw (has-not h)
 
     -- what is returned of the tree
-    pub root-read : (y ≡ 0 → ⊥) → (v x : ℕ) → v ≡ at s x → x ≡ offset s (treeSection s) → v ≡ pick (hasTree s) (rootOf s)
+    pub root-read : (y ≡ 0 → ⊥) → (v x : ℕ) → v ≡ at s x → x ≡ offset s (treeSection s) → v ≡ pick (hasTree s) (rootIn s)
     root-read h v x e ex = rw (has h) (e ∙ ap (λ (k : ℕ). at s k) ex)
 
     pub tree-marked : (y ≡ 0 → ⊥) → 1 ≡ pick (hasTree s) 1

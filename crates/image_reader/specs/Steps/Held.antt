@@ -4,7 +4,7 @@ use mathlib.Core.Path.{_≡_}
 use mathlib.Core.List.{List}
 use lib.ListN.{length}
 use Rattle.arithmetic.specs.Sum.{pick}
-use Rattle.image.specs.Image.{vertexCount, edgeCount, firstOffset, treeSection, offset, extent, hasTree, rootOf}
+use Rattle.image.specs.Image.{vertexCount, edgeCount, firstOffset, treeSection, offset, extent, hasTree, rootIn}
 
 -- what an image that passes 11 to 13 holds: its header, and each section whole
 pub record Held (s : List ℕ) : Type 0 where
@@ -19,5 +19,5 @@ pub record Counted (s : List ℕ) (k n m root tree : ℕ) : Type 0 where
   pub refusal : k ≡ 0
   pub n-is : n ≡ vertexCount s
   pub m-is : m ≡ edgeCount s
-  pub root-is : root ≡ pick (hasTree s) (rootOf s)
+  pub root-is : root ≡ pick (hasTree s) (rootIn s)
   pub tree-is : tree ≡ pick (hasTree s) 1

@@ -16,14 +16,15 @@ use Rattle.arithmetic.specs.Steps.Table.{cell}
 use Rattle.arithmetic.proofs.Laws.Bools.{case, case≤}
 use Rattle.arithmetic.proofs.Laws.Table.{rows-at, cell-below}
 use Rattle.graph.specs.Checks.{verticesOk}
-use Rattle.image.specs.Image.{hasTree, vertexCount, rootOf, parentOf}
+use Rattle.image.specs.Image.{hasTree, vertexCount, rootIn, parentIn}
 use Rattle.image.specs.ImageChecks.{imageChecks}
 use Rattle.host_record.specs.Record.{recordSize}
 use Rattle.image_answer.specs.ImageAnswer.{answerRefusal, imagePlan}
 use Rattle.image_answer.specs.Steps.Answered.{Answered}
 use Rattle.image_answer.proofs.Laws.Answer.{number, success-is, plan-filled, plan-entry}
-use Rattle.listing.specs.Listing.{line, costWord, movesWord, bestWord, refusedWord, planLines, evaluatedListing, listing, Listed}
-use Rattle.listing.proofs.Laws.Listing.{plan-ext}
+use Rattle.listing_lines.specs.Lines.{line, costWord, movesWord, bestWord, refusedWord, planLines}
+use Rattle.listing_lines.proofs.Laws.Line.{plan-ext}
+use Rattle.listing.specs.Listing.{evaluatedListing, listing, Listed}
 
 -- 1 is refused before 2
 fits-anyway : (s : List ℕ) → answerRefusal s (leb (recordSize (vertexCount s)) 16717) ≡ answerRefusal s true
@@ -56,7 +57,7 @@ module _ {s : List ℕ} {potentials potentials' : List ℤ} {entries entries' : 
     evaluated-text d =
         let N = vertexCount s in
         let h : hasTree s ≡ true = case (hasTree s) (λ e. e) (λ e. absurd (d (rw (success-is a z, e)))) in
-        let planned = imagePlan s (rootOf s) (parentOf s) in
+        let planned = imagePlan s (rootIn s) (parentIn s) in
         rw (
           eq-eqb (answerRefusal s true) 0 accepted,
           success-is a z,

@@ -1,3 +1,4 @@
+-- `write_listing` meets its contract.
 use native.Mathlib.Nat.{mul-le-mul}
 use native.Mathlib.Omega.{arith}
 use Rattle.image_answer.proofs.Laws.Answer.{answer-few}

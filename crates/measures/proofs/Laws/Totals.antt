@@ -1,12 +1,11 @@
 -- What checks 6 and 7 say of the totals, and what totals with a cap say of the checks.
 use Prim.Native.Nat.{ℕ, _+_, _≤_, _<_, _^_, min}
-use mathlib.Core.Path.{_≡_, refl}
+use mathlib.Core.Path.{_≡_}
 use mathlib.Core.Bool.{true, false}
 use native.Mathlib.Omega.{arith}
 use borrow.Author.Tests.{leb-true, le-leb, lt-leb, eqb-true, eq-eqb, ne-eqb}
 use Rattle.arithmetic.specs.Sum.{sum}
-use Rattle.arithmetic.proofs.Laws.Refusal.{numbered}
-use Rattle.measures.specs.Checks.{totalOk, totalsEqual, measureChecks}
+use Rattle.measures.specs.Checks.{totalOk, totalsEqual}
 
 pub total-in : (n : ℕ) (amounts : ℕ → ℕ) → totalOk n amounts ≡ true → sum n amounts ≤ 2 ^ 24
 unfolding totalOk
@@ -37,7 +36,3 @@ module _ (n s t : ℕ) (mu nu : ℕ → ℕ) (before : s ≡ min (sum n mu) (2 ^
   totals-agree h e = eq-eqb (sum n mu) (sum n nu) (omega arith)
 
 pub ruleset totals = (total-above, total-within, totals-differ, totals-agree)
-
-pub measures-numbered : (n : ℕ) (mu nu : ℕ → ℕ) → numbered (measureChecks n mu nu) ≡ true
-unfolding measureChecks numbered
-measures-numbered n mu nu = refl

@@ -14,6 +14,7 @@ use Rattle.tree_checks.proofs.Laws.TreeTests.{spanning-rooted}
 use Rattle.tree_figures.specs.Figures.{treeCost}
 use Rattle.tree_figures.specs.Steps.Tables.{LengthsTo}
 use Rattle.tree_evaluation.specs.Steps.EvaluateTree.{Evaluable, TreeEvaluated}
+use Rattle.tree_evaluation.proofs.Laws.GivenTree.{measures-of}
 use Rattle.duality.specs.Best.{Best}
 use Rattle.duality.specs.BestCost.{bestCost}
 use Rattle.duality.proofs.Laws.BestCost.{best-is}
@@ -30,7 +31,7 @@ can-start problem m v tree lp ls = record {
   accepted = problem .accepted;
   tree = tree;
   same = m .total ∙ sym (v .total);
-  light = omega (arith, m .total, m .light);
+  light = m .light;
   mu-size = m .size;
   nu-size = v .size;
   parents-size = lp;
@@ -62,12 +63,7 @@ module _ {g : Graph} {mu₀ nu₀ : List ℕ} (problem : TransportProblem g mu�
         found .above-is x (omega (arith, found .vertices-are)) (λ q. d (q ∙ sym (found .root-is))),
         edgeLength-most g (problem .accepted .edges) (problem .accepted .lengths) x (at parents x),
       );
-      measures = record {
-        long-mu = omega (arith, before .size, found .vertices-are);
-        long-nu = omega (arith, after .size, found .vertices-are);
-        total-mu = rw (found .vertices-are) (omega (arith, before .total, before .light));
-        total-nu = rw (found .vertices-are) (omega (arith, after .total, after .light));
-      };
+      measures = measures-of (found .vertices-are) before after;
       room-imbalance = omega (arith, i, found .vertices-are);
       room-plan = rw (found .vertices-are) e;
     }

@@ -84,10 +84,6 @@ solve-spec =
     (λ c. search needs)
     (λ c κs. search needs)
     returns
-    (λ c. search needs)
-    (λ c. search needs)
-    (λ c. search needs)
-    (λ c. search needs)
     best-tree-requires
     (λ c. search needs)
     (λ c. search needs)

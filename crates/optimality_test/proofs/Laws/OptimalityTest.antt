@@ -1,13 +1,14 @@
 -- The optimality test: the costs of the given tree and of the tree found, and how the test ends.
 use Prim.Native.Nat.{ℕ, _*_, _≤_}
-use mathlib.Core.Path.{_≡_, refl, sym, _∙_}
+use mathlib.Core.Path.{_≡_, sym, _∙_}
 use mathlib.Core.Bool.{true}
 use mathlib.Core.List.{List}
 use native.Mathlib.Nat.{mul-le-mul}
 use native.Mathlib.Omega.{arith}
 use lib.Dec.{eqb}
 use lib.ListN.{length}
-use Rattle.arithmetic.specs.Sum.{pick, sum}
+use borrow.Author.Tests.{eq-eqb, ne-eqb}
+use Rattle.arithmetic.specs.Sum.{pick}
 use Rattle.arithmetic.specs.Table.{at}
 use Rattle.arithmetic.proofs.Laws.Table.{result-refused}
 use Rattle.graph.specs.Graph.{Graph}
@@ -51,25 +52,21 @@ module _ {g : Graph} {w : Given} {k : ℕ} {above above' first edge : List ℕ} 
   test-refused d = record { refusal = number; optimal-is = result-refused k _ d }
 
   module _ (z : k ≡ 0) where
-    pub given-problem : TransportProblem g (w .mu) (w .nu)
-    given-problem =
-        let a = given-accepted checked z in
-        record {
-          accepted = a .graph;
-          total = sum (g .n) (at (w .mu));
-          before = record { size = a .long-mu; total = refl; light = a .total-mu };
-          after = record { size = a .long-nu; total = sym (a .same-total); light = a .total-mu };
-        }
-
     -- the given tree by value
     module _ {n r : ℕ} {parents : List ℕ} (held : (n ≡ g .n) × ((r ≡ w .root) × (parents ≡ parentsHeld (g .n) (w .parents)))) where
       pub given-can : 64 ≤ length above → CanCost n r parents above' (w .mu) (w .nu)
       given-can long imbalances entries i e =
-          let o = room-64 g (given-problem .accepted) in
+          let o = room-64 g (given-accepted checked z .problem .accepted) in
           given-evaluable (given-accepted checked z) (checked .lengths z) held long (omega (arith, o .0)) (omega (arith, o .1))
 
-      pub tested : {cost least optimal : ℕ} → CostOf n r parents above' (w .mu) (w .nu) cost → least ≡ bestCost g (at (w .mu)) (at (w .nu))
-          → optimal ≡ pick (eqb cost least) 1 → OptimalityTested g w 0 optimal
-      tested costs best e =
-          let given-is = given-cost (given-accepted checked z) (checked .lengths z) held (costs (g .lower) (g .upper) (g .lengths)) in
-          record { refusal = sym z ∙ number; optimal-is = rw (← given-is, ← best) e }
+      module _ {cost least : ℕ} (costs : CostOf n r parents above' (w .mu) (w .nu) cost) (best : least ≡ bestCost g (at (w .mu)) (at (w .nu))) where
+        tested : {optimal : ℕ} → optimal ≡ pick (eqb cost least) 1 → OptimalityTested g w 0 optimal
+        tested e =
+            let given-is = given-cost (given-accepted checked z) (checked .lengths z) held (costs (g .lower) (g .upper) (g .lengths)) in
+            record { refusal = sym z ∙ number; optimal-is = rw (← given-is, ← best) e }
+
+        pub tested-best : cost ≡ least → OptimalityTested g w 0 1
+        tested-best e = tested (rw (eq-eqb cost least e))
+
+        pub tested-other : (cost ≡ least → ⊥) → OptimalityTested g w 0 0
+        tested-other d = tested (rw (ne-eqb cost least d))

@@ -1,7 +1,7 @@
 use borrow.Author.Needs.{needs}
-use borrow.Author.Tests.{eq-eqb, ne-eqb}
 use native.Mathlib.Omega.{arith}
-use Rattle.optimality_test.proofs.Laws.OptimalityTest.{test-refused, given-problem, given-can, tested}
+use Rattle.spanning_tree.proofs.Laws.Given.{given-accepted}
+use Rattle.optimality_test.proofs.Laws.OptimalityTest.{test-refused, given-can, tested-best, tested-other}
 use Rattle.optimality_test.proofs.is_optimal.Statement.{statement}
 use Rattle.optimality_test.proofs.is_optimal.Tie as tie
 
@@ -19,7 +19,7 @@ least-cost-requires : tie.Need-least-cost-requires
 least-cost-requires c κs =
     let k : tie.After-given-refusal = search in
     let e : tie.Else1 = search in
-    (given-problem (k .given-refusal .ensures) (e .if1 .left), (k .given-refusal .ensures .tree (e .if1 .left), (omega arith, omega arith)))
+    (given-accepted (k .given-refusal .ensures) (e .if1 .left) .problem, (k .given-refusal .ensures .tree (e .if1 .left), (omega arith, omega arith)))
 
 returns-2 : tie.Need-returns-2
 returns-2 c =
@@ -28,7 +28,7 @@ returns-2 c =
     let m : tie.After-new = search in
     let v : tie.After-cost-of = search in
     let b : tie.After-least-cost = search in
-    tested (k .given-refusal .ensures) (e .if1 .left) (m .new .ensures) (v .cost-of .ensures) (b .least-cost .ensures) (rw (eq-eqb _ _ (c .if2 .taken)))
+    tested-best (k .given-refusal .ensures) (e .if1 .left) (m .new .ensures) (v .cost-of .ensures) (b .least-cost .ensures) (c .if2 .taken)
 
 returns-3 : tie.Need-returns-3
 returns-3 c =
@@ -37,7 +37,7 @@ returns-3 c =
     let m : tie.After-new = search in
     let v : tie.After-cost-of = search in
     let b : tie.After-least-cost = search in
-    tested (k .given-refusal .ensures) (e .if1 .left) (m .new .ensures) (v .cost-of .ensures) (b .least-cost .ensures) (rw (ne-eqb _ _ (c .if2 .left)))
+    tested-other (k .given-refusal .ensures) (e .if1 .left) (m .new .ensures) (v .cost-of .ensures) (b .least-cost .ensures) (c .if2 .left)
 
 pub is-optimal-spec : {M : Type 1} → statement M
 is-optimal-spec =
@@ -51,8 +51,6 @@ is-optimal-spec =
     (λ c κs. search needs)
     (λ c. search needs)
     cost-of-requires
-    (λ c. search needs)
-    (λ c. search needs)
     least-cost-requires
     returns-2
     returns-3)

@@ -27,10 +27,7 @@ pub least-cost-spec : {M : Type 1} → statement M
 least-cost-spec =
     tie.close
     (tie.spec
-    (λ c. search needs)
-    (λ c. search needs)
     best-tree-requires
     (λ c. search needs)
     cost-of-requires
-    (λ c. search needs)
     returns)

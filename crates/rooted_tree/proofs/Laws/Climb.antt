@@ -10,7 +10,7 @@ use Rattle.rooted_tree.specs.Chain.{below, depth}
 use Rattle.rooted_tree.specs.Steps.Rooted.{Rooted}
 use Rattle.rooted_tree.specs.Steps.Subtotal.{inner}
 use Rattle.rooted_tree.specs.Steps.Climb.{climbed}
-use Rattle.rooted_tree.proofs.Laws.Rooted.{above-root, above-step, tree-ind, depth-root, depth-step}
+use Rattle.rooted_tree.proofs.Laws.Rooted.{path-sum-root, path-sum-step, tree-ind, depth-root, depth-step}
 use Rattle.rooted_tree.proofs.Laws.Subtotal.{inner-ext}
 
 -- the walk from y has come to z with a sum: what is left is f above z
@@ -29,10 +29,10 @@ climbing-none r p f h = record { low = h; rest = omega arith }
 
 module _ {n r : ℕ} {p : ℕ → ℕ} (t : Rooted n r p) where
   pub climbed-root : (f : ℕ → ℕ) → climbed n r p f r ≡ 0
-  climbed-root f = above-root t (λ x. inner r x (f x)) ∙ rw (eqb-self r)
+  climbed-root f = path-sum-root t (λ x. inner r x (f x)) ∙ rw (eqb-self r)
 
   pub climbed-step : (f : ℕ → ℕ) (y : ℕ) → y < n → (y ≡ r → ⊥) → climbed n r p f y ≡ f y + climbed n r p f (p y)
-  climbed-step f y l d = above-step t (λ x. inner r x (f x)) y l d ∙ rw (ne-eqb y r d)
+  climbed-step f y l d = path-sum-step t (λ x. inner r x (f x)) y l d ∙ rw (ne-eqb y r d)
 
   -- the steps are the depth
   pub climbed-depth : (y : ℕ) → y < n → climbed n r p (λ _. 1) y ≡ depth p r n y

@@ -9,7 +9,7 @@ use Rattle.arithmetic.specs.Sum.{pick, sum}
 use Rattle.arithmetic.proofs.Laws.Bools.{case, case≡, clash, is-false, or-elim, or-right, or-same, or-true-r, eqb-self}
 use Rattle.arithmetic.proofs.Laws.Sum.{pick-le, sum-ext, sum-le, sum-lt, sum-one, sum-add, sum-only'}
 use Rattle.rooted_tree.specs.Chain.{climb, below, depth}
-use Rattle.rooted_tree.specs.Steps.Rooted.{Rooted, above, ReachesRoot}
+use Rattle.rooted_tree.specs.Steps.Rooted.{Rooted, pathSum, ReachesRoot}
 
 below-climb : (p : ℕ → ℕ) (k y x : ℕ) → below p k y x ≡ true → (j : ℕ) × (climb p j y ≡ x)
 unfolding below climb
@@ -147,14 +147,14 @@ module _ {n r : ℕ} {p : ℕ → ℕ} (t : Rooted n r p) where
   parent-out y l d = is-false _ (λ h. omega (arith, depth-step y l d, depth-mono y (p y) (t .into y l) h))
 
   -- ---- sums over the vertices above y
-  pub above-root : (f : ℕ → ℕ) → above p n f r ≡ f r
-  above-root f = sum-ext n _ _ (λ x l. rw (at-root x)) ∙ sum-only' n r f (t .root)
+  pub path-sum-root : (f : ℕ → ℕ) → pathSum p n f r ≡ f r
+  path-sum-root f = sum-ext n _ _ (λ x l. rw (at-root x)) ∙ sum-only' n r f (t .root)
 
-  pub above-step : (f : ℕ → ℕ) (y : ℕ) → y < n → (y ≡ r → ⊥) → above p n f y ≡ f y + above p n f (p y)
-  above-step f y l d =
+  pub path-sum-step : (f : ℕ → ℕ) (y : ℕ) → y < n → (y ≡ r → ⊥) → pathSum p n f y ≡ f y + pathSum p n f (p y)
+  path-sum-step f y l d =
       sum-ext n _ (λ x. pick (eqb y x) (f x) + pick (below p n (p y) x) (f x)) (λ x k. split x)
       ∙ sum-add n (λ x. pick (eqb y x) (f x)) (λ x. pick (below p n (p y) x) (f x))
-      ∙ ap (λ (s : ℕ). s + above p n f (p y)) (sum-only' n y f l)
+      ∙ ap (λ (s : ℕ). s + pathSum p n f (p y)) (sum-only' n y f l)
     where
       split : (x : ℕ) → pick (below p n y x) (f x) ≡ pick (eqb y x) (f x) + pick (below p n (p y) x) (f x)
       split x =
@@ -163,11 +163,11 @@ module _ {n r : ℕ} {p : ℕ → ℕ} (t : Rooted n r p) where
           (λ ne. rw (at-step y x l, ne-eqb y x ne) (omega arith))
 
   -- a chain has as many vertices as its depth, and one
-  depth-count : (y : ℕ) → y < n → above p n (λ x. 1) y ≡ suc (depth p r n y)
+  depth-count : (y : ℕ) → y < n → pathSum p n (λ x. 1) y ≡ suc (depth p r n y)
   depth-count =
-      tree-ind (λ y. above p n (λ x. 1) y ≡ suc (depth p r n y))
-      (omega (arith, above-root (λ x. 1), depth-root))
-      (λ y l d h. omega (arith, h, above-step (λ x. 1) y l d, depth-step y l d))
+      tree-ind (λ y. pathSum p n (λ x. 1) y ≡ suc (depth p r n y))
+      (omega (arith, path-sum-root (λ x. 1), depth-root))
+      (λ y l d h. omega (arith, h, path-sum-step (λ x. 1) y l d, depth-step y l d))
 
   pub depth-lt : (y : ℕ) → y < n → depth p r n y < n
   depth-lt y l =

@@ -10,9 +10,9 @@ use Rattle.arithmetic.specs.Sum.{pick, sum}
 use Rattle.arithmetic.proofs.Laws.Bools.{case≡, eqb-self}
 use Rattle.arithmetic.proofs.Laws.Sum.{pick-le, pick-mul, sum-ext, sum-le, sum-add, sum-mul, sum-swap}
 use Rattle.rooted_tree.specs.Chain.{below}
-use Rattle.rooted_tree.specs.Steps.Rooted.{Rooted, above}
+use Rattle.rooted_tree.specs.Steps.Rooted.{Rooted, pathSum}
 use Rattle.rooted_tree.specs.Steps.Subtotal.{subtotal, inner}
-use Rattle.rooted_tree.proofs.Laws.Rooted.{tree-ind, all-b, above-root, above-step}
+use Rattle.rooted_tree.proofs.Laws.Rooted.{tree-ind, all-b, path-sum-root, path-sum-step}
 
 -- what holds its value at every vertex but the root
 pub inner-ext : (n r : ℕ) (f g : ℕ → ℕ) → ((x : ℕ) → x < n → (x ≡ r → ⊥) → f x ≡ g x) → (x : ℕ) → x < n → inner r x (f x) ≡ inner r x (g x)
@@ -34,20 +34,20 @@ module _ {n r : ℕ} {p : ℕ → ℕ} (t : Rooted n r p) where
     up x = inner r x (U (p x))
 
     -- the sum of U over the vertices above y is that of U at their parents, and U at y
-    telescope : (y : ℕ) → y < n → above p n U y ≡ above p n up y + U y
+    telescope : (y : ℕ) → y < n → pathSum p n U y ≡ pathSum p n up y + U y
     telescope =
-        tree-ind t (λ y. above p n U y ≡ above p n up y + U y)
-        (let z : up r ≡ 0 = unfold up in rw (eqb-self r) in omega (arith, above-root t U, above-root t up, z))
+        tree-ind t (λ y. pathSum p n U y ≡ pathSum p n up y + U y)
+        (let z : up r ≡ 0 = unfold up in rw (eqb-self r) in omega (arith, path-sum-root t U, path-sum-root t up, z))
         (λ y l d h.
         let z : up y ≡ U (p y) = unfold up in rw (ne-eqb y r d) in
-        omega (arith, h, z, above-step t U y l d, above-step t up y l d))
+        omega (arith, h, z, path-sum-step t U y l d, path-sum-step t up y l d))
 
   pick-swap : (b : Bool) (w m : ℕ) → w * pick b m ≡ m * pick b w
   pick-swap true w m = mul-comm w m
   pick-swap false w m = mul-zero w ∙ sym (mul-zero m)
 
   -- weights against subtotals: each mass times the weights above it
-  subtotals-above : (w m : ℕ → ℕ) → sum n (λ x. w x * subtotal p n m x) ≡ sum n (λ y. m y * above p n w y)
+  subtotals-above : (w m : ℕ → ℕ) → sum n (λ x. w x * subtotal p n m x) ≡ sum n (λ y. m y * pathSum p n w y)
   unfolding subtotal
   subtotals-above w m =
       sum-ext n _ _ (λ x l. sym (sum-mul n (w x) (λ y. pick (below p n y x) (m y))))
@@ -63,8 +63,8 @@ module _ {n r : ℕ} {p : ℕ → ℕ} (t : Rooted n r p) where
       ≡ sum n (λ x. inner r x (U (p x) * subtotal p n m x)) + sum n (λ y. U y * m y)
   by-parts U m =
       subtotals-above U m
-      ∙ sum-ext n _ (λ y. m y * above p n (up U) y + U y * m y) (λ y l.
-      ap (λ (s : ℕ). m y * s) (telescope U y l) ∙ mul-add (m y) (above p n (up U) y) (U y)
-      ∙ ap (λ (s : ℕ). m y * above p n (up U) y + s) (mul-comm (m y) (U y)))
-      ∙ sum-add n (λ y. m y * above p n (up U) y) (λ y. U y * m y)
+      ∙ sum-ext n _ (λ y. m y * pathSum p n (up U) y + U y * m y) (λ y l.
+      ap (λ (s : ℕ). m y * s) (telescope U y l) ∙ mul-add (m y) (pathSum p n (up U) y) (U y)
+      ∙ ap (λ (s : ℕ). m y * pathSum p n (up U) y + s) (mul-comm (m y) (U y)))
+      ∙ sum-add n (λ y. m y * pathSum p n (up U) y) (λ y. U y * m y)
       ∙ ap (λ (s : ℕ). s + sum n (λ y. U y * m y)) (sym (subtotals-above (up U) m) ∙ parents U m)

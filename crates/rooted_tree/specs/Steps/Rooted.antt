@@ -12,8 +12,8 @@ pub record Rooted (n r : ℕ) (p : ℕ → ℕ) : Type 0 where
   pub up : (y : ℕ) → y < n → climb p n y ≡ r
 
 -- f summed over the vertices above y: y, its parent and so on up to the root
-abbrev pub above : (ℕ → ℕ) → ℕ → (ℕ → ℕ) → ℕ → ℕ
-above p n f y = sum n (λ x. pick (below p n y x) (f x))
+abbrev pub pathSum : (ℕ → ℕ) → ℕ → (ℕ → ℕ) → ℕ → ℕ
+pathSum p n f y = sum n (λ x. pick (below p n y x) (f x))
 
 -- ---- chains that reach the root, by whatever number of steps, make a tree
 

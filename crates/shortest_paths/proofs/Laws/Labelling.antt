@@ -23,9 +23,9 @@ use Rattle.graph.specs.Steps.Path.{Edge, Path, stay, step}
 use Rattle.graph.specs.Steps.Accepted.{WellFormed}
 use Rattle.graph.proofs.Laws.Accepted.{vertices-in, lists-in}
 use Rattle.graph.proofs.Laws.Edge.{ends-joins, edge-up, edge-turn, edge-in, edge-most, edge-order, lower-rises}
-use Rattle.shortest_paths.specs.Steps.Weight.{weightOf, unreached, Feasible, Within}
-use Rattle.shortest_paths.specs.Steps.ShortestPathTree.{Wide, CanSearch, Searched}
-use Rattle.shortest_paths.specs.Steps.Labels.{Hangs, Labelled, Cleared, CanRelax, Relaxed, Swept, SomeLabelled, SweepsUp, SweepsDown, FeasibleUp, Rounds}
+use Rattle.shortest_paths.specs.Steps.Weight.{weightOf, unreached, Feasible, FeasibleEdge}
+use Rattle.shortest_paths.specs.Steps.ShortestPathTree.{Wide, CanFindPaths, Searched}
+use Rattle.shortest_paths.specs.Steps.Labels.{Hangs, Labelled, Initialized, CanRelax, Relaxed, Swept, SomeLabelled, SweepsUp, SweepsDown, FeasibleUp, Rounds}
 use Rattle.shortest_paths.proofs.Laws.ShortestPath.{edge-within}
 
 -- ---- a graph that passed checks 1 to 4
@@ -52,18 +52,18 @@ module _ {g : Graph} (f : WellFormed g) where
 -- ---- the start
 
 -- the first i vertices hang on r, and are not reached
-pub record ClearedTo (r i : ℕ) (p labels p' labels' : List ℕ) : Type 0 where
+pub record InitializedTo (r i : ℕ) (p labels p' labels' : List ℕ) : Type 0 where
   pub parents-size : length p' ≡ length p
   pub labels-size : length labels' ≡ length labels
   pub parents : (v : ℕ) → v < i → at p' v ≡ r
   pub others : (v : ℕ) → v < i → at labels' v ≡ unreached
 
-pub cleared-none : (r : ℕ) (p labels : List ℕ) → ClearedTo r 0 p labels p labels
-cleared-none r p labels = record { parents-size = refl; labels-size = refl; parents = below-none _; others = below-none _ }
+pub initialized-none : (r : ℕ) (p labels : List ℕ) → InitializedTo r 0 p labels p labels
+initialized-none r p labels = record { parents-size = refl; labels-size = refl; parents = below-none _; others = below-none _ }
 
-module _ (r i : ℕ) {p labels p' labels' : List ℕ} (w : ClearedTo r i p labels p' labels') where
-  pub cleared-more : i < length p' → i < length labels' → ClearedTo r (i + 1) p labels (set p' i r) (set labels' i unreached)
-  cleared-more lp ll = record {
+module _ (r i : ℕ) {p labels p' labels' : List ℕ} (w : InitializedTo r i p labels p' labels') where
+  pub initialized-more : i < length p' → i < length labels' → InitializedTo r (i + 1) p labels (set p' i r) (set labels' i unreached)
+  initialized-more lp ll = record {
     parents-size = length-set p' i r ∙ w .parents-size;
     labels-size = length-set labels' i unreached ∙ w .labels-size;
     parents = below-more (λ v. at (set p' i r) v ≡ r) i (λ v l. getD-set-other p' i v r 0 (omega arith) ∙ w .parents v l) (getD-set-same p' i r 0 lp);
@@ -72,8 +72,8 @@ module _ (r i : ℕ) {p labels p' labels' : List ℕ} (w : ClearedTo r i p label
         (λ v l. getD-set-other labels' i v unreached 0 (omega arith) ∙ w .others v l) (getD-set-same labels' i unreached 0 ll);
   }
 
-  pub cleared-end : 64 ≤ i → r < length labels' → Cleared r p labels p' (set labels' r 0)
-  cleared-end h l = record {
+  pub initialized-end : 64 ≤ i → r < length labels' → Initialized r p labels p' (set labels' r 0)
+  initialized-end h l = record {
     parents-size = w .parents-size;
     labels-size = length-set labels' r 0 ∙ w .labels-size;
     parents = λ v k. w .parents v (omega arith);
@@ -81,7 +81,7 @@ module _ (r i : ℕ) {p labels p' labels' : List ℕ} (w : ClearedTo r i p label
     others = λ v k d. getD-set-other labels' r v 0 0 d ∙ w .others v (omega arith);
   }
 
-pub first-labelled : {g : Graph} {r : ℕ} {p s labels p' labels' : List ℕ} → CanSearch g r p s labels → Cleared r p labels p' labels' → Labelled g r p' s labels'
+pub first-labelled : {g : Graph} {r : ℕ} {p s labels p' labels' : List ℕ} → CanFindPaths g r p s labels → Initialized r p labels p' labels' → Labelled g r p' s labels'
 first-labelled {g} {r} can w =
     let few : g .n ≤ 64 = vertices (can .formed) .1 in
     record {
@@ -319,7 +319,7 @@ module _ {a b lengths p s labels : List ℕ} {r : Bool} {p₁ s₁ labels₁ : L
       }
 
 -- ---- the end: no edge can lower a label
-module _ {g : Graph} {r : ℕ} {p s labels : List ℕ} (m : Labelled g r p s labels) (least : (e : ℕ) → e < edges g → Within g (at labels) e) where
+module _ {g : Graph} {r : ℕ} {p s labels : List ℕ} (m : Labelled g r p s labels) (least : (e : ℕ) → e < edges g → FeasibleEdge g (at labels) e) where
   abbrev reached : ℕ → Bool
   reached v = ltb (at labels v) unreached
 

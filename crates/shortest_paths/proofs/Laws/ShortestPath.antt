@@ -20,11 +20,11 @@ use Rattle.graph.proofs.Laws.Accepted.{vertices-in}
 use Rattle.graph.proofs.Laws.Edge.{joins-ends, edge-turn, edge-in}
 use Rattle.graph.proofs.Laws.EdgeTree.{Hung, rank-rooted, tree-of-rank}
 use Rattle.graph.proofs.Laws.Distance.{distance-least}
-use Rattle.shortest_paths.specs.Steps.Weight.{weightOf, Within}
+use Rattle.shortest_paths.specs.Steps.Weight.{weightOf, FeasibleEdge}
 use Rattle.shortest_paths.specs.Steps.ShortestPathTree.{ShortestPathTree}
 
 -- along an edge the label rises by at most its weight
-pub edge-within : (g : Graph) (label : ℕ → ℕ) → ((e : ℕ) → e < edges g → Within g label e)
+pub edge-within : (g : Graph) (label : ℕ → ℕ) → ((e : ℕ) → e < edges g → FeasibleEdge g label e)
     → {x y t : ℕ} (e : Edge g x y t) → label y ≤ label x + weightOf t
 edge-within g label least {x} {y} e =
     let w = least (e .number) (e .here) in
@@ -71,7 +71,7 @@ module _ {g : Graph} {r : ℕ} {p s labels : List ℕ} (here : r < g .n) (ok : e
           edge-within g (at labels) (t .least) e,
         )
 
--- a label tells the distance, and the depth in the tree
+-- what the tree's labels mean (nothing cites this): a label tells the distance, and the depth in the tree
 pub label-is : {g : Graph} {r : ℕ} {p s labels : List ℕ} → Accepted g → r < g .n → ShortestPathTree g r p s labels → (v : ℕ) → v < g .n
     → at labels v ≡ 128 * distance g r v + depth (at p) r (g .n) v
 label-is {g} {r} a here t v l =

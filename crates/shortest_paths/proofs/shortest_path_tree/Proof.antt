@@ -18,23 +18,23 @@ Inv-loop n a b lengths start parents₀ edge₀ labels₀ parents edge labels =
 abbrev μ-loop : tie.MeasureT-loop
 μ-loop n a b lengths start parents₀ edge₀ labels₀ parents edge labels = sum n (at labels)
 
-clear-requires : tie.Need-clear-requires Inv-loop μ-loop
-clear-requires c κs =
+initialize-requires : tie.Need-initialize-requires Inv-loop μ-loop
+initialize-requires c κs =
     let s : tie.Start Inv-loop μ-loop = search in
     (omega (arith, s .pre .start-in, vertices (s .pre .formed)), (s .pre .wide .0, s .pre .wide .1 .1))
 
 sweep-up-requires : tie.Need-sweep-up-requires Inv-loop μ-loop
 sweep-up-requires c κs =
     let s : tie.Start Inv-loop μ-loop = search in
-    let k : tie.After-clear Inv-loop μ-loop = search in
-    (s .args .n, (s .args .start, first-labelled (s .pre) (k .clear .ensures)))
+    let k : tie.After-initialize Inv-loop μ-loop = search in
+    (s .args .n, (s .args .start, first-labelled (s .pre) (k .initialize .ensures)))
 
 loop-holds : tie.Need-loop-holds Inv-loop μ-loop
 loop-holds c =
     let s : tie.Start Inv-loop μ-loop = search in
-    let k : tie.After-clear Inv-loop μ-loop = search in
+    let k : tie.After-initialize Inv-loop μ-loop = search in
     let u : tie.After-sweep-up Inv-loop μ-loop = search in
-    let w = u .sweep-up .ensures _ _ (first-labelled (s .pre) (k .clear .ensures)) in
+    let w = u .sweep-up .ensures _ _ (first-labelled (s .pre) (k .initialize .ensures)) in
     (refl, (refl, (refl, (w .labelled, λ e l. w .feasible e (omega arith) l))))
 
 round-requires : tie.Need-round-requires Inv-loop μ-loop
@@ -78,7 +78,7 @@ shortest-path-tree-spec =
     (tie.spec
     Inv-loop
     μ-loop
-    clear-requires
+    initialize-requires
     sweep-up-requires
     loop-holds
     round-requires

@@ -9,8 +9,8 @@ use lib.Dec.{ltb}
 use Rattle.arithmetic.specs.Sum.{sum, pick}
 use Rattle.arithmetic.specs.Table.{at}
 use Rattle.graph.specs.Graph.{Graph, graph, edges, joins}
-use Rattle.shortest_paths.specs.Steps.Weight.{weightOf, unreached, Feasible, Within}
-use Rattle.shortest_paths.specs.Steps.ShortestPathTree.{Wide, CanSearch}
+use Rattle.shortest_paths.specs.Steps.Weight.{weightOf, unreached, Feasible, FeasibleEdge}
+use Rattle.shortest_paths.specs.Steps.ShortestPathTree.{Wide, CanFindPaths}
 
 -- what a store leaves, made or not
 abbrev pub put : Bool → List ℕ → ℕ → ℕ → List ℕ
@@ -25,7 +25,7 @@ pub record Hangs (g : Graph) (p s labels : List ℕ) (v : ℕ) : Type 0 where
 
 -- r is its own parent, with label 0; labels fall from each other vertex to its parent, and one that is reached hangs
 pub record Labelled (g : Graph) (r : ℕ) (p s labels : List ℕ) : Type 0 where
-  pub can : CanSearch g r p s labels
+  pub can : CanFindPaths g r p s labels
   pub root : at p r ≡ r
   pub origin : at labels r ≡ 0
   pub most : (v : ℕ) → v < g .n → at labels v ≤ unreached
@@ -34,7 +34,7 @@ pub record Labelled (g : Graph) (r : ℕ) (p s labels : List ℕ) : Type 0 where
   pub hangs : (v : ℕ) → v < g .n → (v ≡ r → ⊥) → at labels v < unreached → Hangs g p s labels v
 
 -- r alone is reached, and all hang on it
-pub record Cleared (r : ℕ) (p labels p' labels' : List ℕ) : Type 0 where
+pub record Initialized (r : ℕ) (p labels p' labels' : List ℕ) : Type 0 where
   pub parents-size : length p' ≡ length p
   pub labels-size : length labels' ≡ length labels
   pub parents : (v : ℕ) → v < 64 → at p' v ≡ r
@@ -87,7 +87,7 @@ pub record Rounded (g : Graph) (root : ℕ) (labels : List ℕ) (r : Bool) (p' s
   pub labelled : Labelled g root p' s' labels'
   pub less : sum (g .n) (at labels') + pick r 1 ≤ sum (g .n) (at labels)
   pub up : FeasibleUp (g .lower) (g .upper) (g .lengths) labels'
-  pub closed : r ≡ false → (e : ℕ) → e < edges g → Within g (at labels') e
+  pub closed : r ≡ false → (e : ℕ) → e < edges g → FeasibleEdge g (at labels') e
 
 -- the same of every graph with these edges and every vertex
 abbrev pub Rounds : (a b lengths p s labels : List ℕ) (r : Bool) (p' s' labels' : List ℕ) → Type 0

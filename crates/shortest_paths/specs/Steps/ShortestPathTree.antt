@@ -8,7 +8,7 @@ use Rattle.arithmetic.specs.Table.{at}
 use Rattle.graph.specs.Graph.{Graph, edges, joins}
 use Rattle.graph.specs.Steps.Path.{Path}
 use Rattle.graph.specs.Steps.Accepted.{WellFormed}
-use Rattle.shortest_paths.specs.Steps.Weight.{weightOf, unreached, Within}
+use Rattle.shortest_paths.specs.Steps.Weight.{weightOf, unreached, FeasibleEdge}
 
 -- v hangs on its parent by an edge that accounts for its label
 pub record Tight (g : Graph) (p s labels : List ℕ) (v : ℕ) : Type 0 where
@@ -21,7 +21,7 @@ pub record ShortestPathTree (g : Graph) (r : ℕ) (p s labels : List ℕ) : Type
   pub root : at p r ≡ r
   pub origin : at labels r ≡ 0
   pub hangs : (v : ℕ) → v < g .n → (v ≡ r → ⊥) → Tight g p s labels v
-  pub least : (e : ℕ) → e < edges g → Within g (at labels) e
+  pub least : (e : ℕ) → e < edges g → FeasibleEdge g (at labels) e
   pub most : (v : ℕ) → v < g .n → at labels v < unreached
 
 -- three tables of at least 64 places
@@ -29,7 +29,7 @@ abbrev pub Wide : List ℕ → List ℕ → List ℕ → Type 0
 Wide p s labels = (64 ≤ length p) × ((64 ≤ length s) × (64 ≤ length labels))
 
 -- a graph that passed checks 1 to 4, and a vertex of it
-pub record CanSearch (g : Graph) (r : ℕ) (p s labels : List ℕ) : Type 0 where
+pub record CanFindPaths (g : Graph) (r : ℕ) (p s labels : List ℕ) : Type 0 where
   pub formed : WellFormed g
   pub start-in : r < g .n
   pub wide : Wide p s labels

@@ -18,5 +18,5 @@ abbrev pub Feasible : (from to lengths : List ℕ) → (ℕ → ℕ) → ℕ →
 Feasible from to lengths label e = label (at to e) ≤ label (at from e) + weightOf (at lengths e)
 
 -- the same either way
-abbrev pub Within : Graph → (ℕ → ℕ) → ℕ → Type 0
-Within g label e = Feasible (g .lower) (g .upper) (g .lengths) label e × Feasible (g .upper) (g .lower) (g .lengths) label e
+abbrev pub FeasibleEdge : Graph → (ℕ → ℕ) → ℕ → Type 0
+FeasibleEdge g label e = Feasible (g .lower) (g .upper) (g .lengths) label e × Feasible (g .upper) (g .lower) (g .lengths) label e

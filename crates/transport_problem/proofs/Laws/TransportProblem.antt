@@ -32,25 +32,31 @@ pub both-long : (r : ℕ) (g : Graph) (mu nu : List ℕ) (t tables : Bool) → t
 both-long r g mu nu t tables e c z = let l = long-in (g .n) mu nu tables (sym e ∙ graph-passed g t (sym c ∙ z) .1) in (l .0, l .1 .0)
 
 -- nothing is refused: all of it is accepted, the caller's own tables too
-module _ {g : Graph} {mu nu : List ℕ} {tables : Bool} {k : ℕ} {p s : List ℕ} (checked : ProblemChecked g mu nu tables k p s) (z : k ≡ 0) where
-  holds : (i : ℕ) → testOf (problemChecks g mu nu tables) i ≡ true
-  unfolding sizeChecks edgeChecks measureChecks numbered
-  holds = every-holds (problemChecks g mu nu tables) refl (sym (checked .number) ∙ z)
-
-  long : (length mu ≡ g .n) × ((length nu ≡ g .n) × (tables ≡ true))
-  unfolding sizeChecks edgeChecks measureChecks testOf
-  long = long-in (g .n) mu nu tables (and-r (listsOk g) _ (holds 2))
-
-  pub problem-accepted : TransportProblem g mu nu
-  unfolding sizeChecks edgeChecks measureChecks testOf
-  problem-accepted =
-      let light = total-in (g .n) (at mu) (and-l (totalOk (g .n) (at mu)) _ (holds 6)) in
+pub problem-passed : (g : Graph) (mu nu : List ℕ) (tables : Bool) → refusal (problemChecks g mu nu tables) ≡ 0 → TransportProblem g mu nu × (tables ≡ true)
+unfolding sizeChecks edgeChecks measureChecks testOf numbered
+problem-passed g mu nu tables h =
+    let k = every-holds (problemChecks g mu nu tables) refl h in
+    let long = long-in (g .n) mu nu tables (and-r (listsOk g) _ (k 2)) in (
       record {
-        accepted = record { vertices = holds 1; lists = and-l (listsOk g) _ (holds 2); edges = holds 3; lengths = holds 4; connected = holds 5 };
+        accepted = record { vertices = k 1; lists = and-l (listsOk g) _ (k 2); edges = k 3; lengths = k 4; connected = k 5 };
         total = sum (g .n) (at mu);
-        before = record { size = long .0; total = refl; light = light };
-        after = record { size = long .1 .0; total = sym (equal-in (g .n) (at mu) (at nu) (holds 7)); light = light };
-      }
+        before = record { size = long .0; total = refl; light = total-in (g .n) (at mu) (and-l (totalOk (g .n) (at mu)) _ (k 6)) };
+        after = record {
+          size = long .1 .0;
+          total = sym (equal-in (g .n) (at mu) (at nu) (k 7));
+          light = total-in (g .n) (at nu) (and-r (totalOk (g .n) (at mu)) _ (k 6));
+        };
+      },
+      long .1 .1,
+    )
+
+module _ {g : Graph} {mu nu : List ℕ} {tables : Bool} {k : ℕ} {p s : List ℕ} (checked : ProblemChecked g mu nu tables k p s) (z : k ≡ 0) where
+  pub problem-accepted : TransportProblem g mu nu
+  problem-accepted = problem-passed g mu nu tables (sym (checked .number) ∙ z) .0
 
   pub tables-accepted : tables ≡ true
-  tables-accepted = long .1 .1
+  tables-accepted = problem-passed g mu nu tables (sym (checked .number) ∙ z) .1
+
+pub problem-numbered : (g : Graph) (mu nu : List ℕ) (tables : Bool) → numbered (problemChecks g mu nu tables) ≡ true
+unfolding sizeChecks edgeChecks measureChecks numbered
+problem-numbered g mu nu tables = refl

@@ -16,7 +16,7 @@ use Rattle.transport_problem.specs.Checks.{problemChecks}
 pub record Painting (n t : ℕ) (amounts : List ℕ) : Type 0 where
   pub size : length amounts ≡ n
   pub total : sum n (at amounts) ≡ t
-  pub light : t ≤ 2 ^ 24
+  pub light : sum n (at amounts) ≤ 2 ^ 24
 
 -- a graph that passed its checks, and two paintings of one total
 pub record TransportProblem (g : Graph) (mu nu : List ℕ) : Type 0 where

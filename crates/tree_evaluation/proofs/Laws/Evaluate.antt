@@ -94,7 +94,7 @@ module _ {g : Graph} {w : Given} (imbalances : List ℤ) (u : ℕ) (entries : Li
         let moderate : Moderate n imbalances'
         = λ x l.
         rw (value .imbalance-is, front-at (g .n) (imbalance (g .n) (at (w .parents)) (at (w .mu)) (at (w .nu))) imbalances (pos 0) x (omega (arith, held .0)))
-        (imbalance-moderate (g .n) (at (w .parents)) (at (w .mu)) (at (w .nu)) x (omega (arith, accepted .total-mu)) (omega (arith, accepted .total-nu))) in
+        (imbalance-moderate (g .n) (at (w .parents)) (at (w .mu)) (at (w .nu)) x (omega (arith, accepted .problem .before .light)) (omega (arith, accepted .problem .after .light))) in
         ((e .few, omega (arith, rooms .1 .0, held .0)), ((omega (arith, e .few, long), (e .long-above, omega (arith, e .room-imbalance, kept))), (e .tree, (e .short, moderate))))
 
     pub evaluate-done : {potentials potentials' : List ℤ} → u ≡ length potentials

@@ -12,30 +12,41 @@ use Rattle.graph.proofs.Laws.Accepted.{vertices-in}
 use Rattle.graph.proofs.Laws.Edge.{edgeLength-most}
 use Rattle.tree_checks.specs.Steps.ParentEdges.{Lengths}
 use Rattle.tree_checks.proofs.Laws.TreeTests.{spanning-rooted}
+use Rattle.transport_problem.specs.Steps.TransportProblem.{Painting}
 use Rattle.spanning_tree.specs.TreeValue.{parentsHeld}
 use Rattle.spanning_tree.specs.Given.{Given}
 use Rattle.spanning_tree.proofs.Laws.TreeValue.{held-same}
 use Rattle.spanning_tree.proofs.Laws.Given.{GivenAccepted}
+use Rattle.transport_plan.specs.Steps.PlanSteps.{Measures}
 use Rattle.tree_figures.specs.Figures.{treeCost}
 use Rattle.tree_figures.specs.Steps.Tables.{Short, LengthsTo}
 use Rattle.tree_evaluation.specs.Steps.EvaluateTree.{Evaluable, TreeEvaluated}
 
+-- two paintings, for a tree of as many vertices
+pub measures-of : {n k s t : ℕ} {mu nu : List ℕ} → n ≡ k → Painting k s mu → Painting k t nu → Measures n mu nu
+measures-of e before after = record {
+  long-mu = omega (arith, before .size);
+  long-nu = omega (arith, after .size);
+  total-mu = rw e (before .light);
+  total-nu = rw e (after .light);
+}
+
 module _ {g : Graph} {w : Given} (accepted : GivenAccepted g w) {above above' : List ℕ} (sized : Lengths g (w .root) (at (w .parents)) above above')
     {n r : ℕ} {parents : List ℕ} (held : (n ≡ g .n) × ((r ≡ w .root) × (parents ≡ parentsHeld (g .n) (w .parents)))) where
   few : g .n ≤ 64
-  few = vertices-in (g .n) (accepted .graph .vertices) .1
+  few = vertices-in (g .n) (accepted .problem .accepted .vertices) .1
 
   pub given-same : at parents ≡ at (w .parents)
   given-same = ap at (held .1 .1) ∙ held-same (g .n) (w .parents) few (accepted .long-parents)
 
   pub given-rooted : Rooted n r (at parents)
-  given-rooted = rw (held .0, held .1 .0, given-same) (spanning-rooted g (w .root) (at (w .parents)) (accepted .graph .edges) (accepted .tree))
+  given-rooted = rw (held .0, held .1 .0, given-same) (spanning-rooted g (w .root) (at (w .parents)) (accepted .problem .accepted .edges) (accepted .tree))
 
   pub given-short : Short n r (at above')
   given-short x l d = omega (
     arith,
     sized .each x (omega (arith, held .0)) (omega (arith, held .1 .0)),
-    edgeLength-most g (accepted .graph .edges) (accepted .graph .lengths) x (at (w .parents) x),
+    edgeLength-most g (accepted .problem .accepted .edges) (accepted .problem .accepted .lengths) x (at (w .parents) x),
   )
 
   pub given-evaluable : 64 ≤ length above → {imbalances : List ℤ} {entries : List ℕ} → g .n ≤ length imbalances → g .n * g .n ≤ length entries
@@ -45,12 +56,7 @@ module _ {g : Graph} {w : Given} (accepted : GivenAccepted g w) {above above' : 
     tree = given-rooted;
     long-above = omega (arith, few, held .0, sized .size);
     short = given-short;
-    measures = record {
-      long-mu = omega (arith, held .0, accepted .long-mu);
-      long-nu = omega (arith, held .0, accepted .long-nu);
-      total-mu = rw (held .0) (accepted .total-mu);
-      total-nu = rw (held .0) (accepted .total-nu);
-    };
+    measures = measures-of (held .0) (accepted .problem .before) (accepted .problem .after);
     room-imbalance = omega (arith, i, held .0);
     room-plan = rw (held .0) e;
   }

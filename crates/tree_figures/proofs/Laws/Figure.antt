@@ -24,7 +24,7 @@ use Rattle.rooted_tree.proofs.Laws.Subtotal.{subtotal-le, inner-ext}
 use Rattle.rooted_tree.proofs.Laws.Climb.{Climbing, climbed-ext}
 use Rattle.rooted_tree.proofs.Laws.Potential.{lengths-most}
 use Rattle.graph.specs.Graph.{Graph}
-use Rattle.tree_walks.specs.Steps.Sums.{Within}
+use Rattle.arithmetic.specs.Steps.Table.{EachBelow}
 use Rattle.tree_figures.specs.Figures.{imbalance, sign, toParent, potential, treeCost}
 use Rattle.tree_figures.specs.Steps.Tables.{Short, LengthsTo, costFrom, rises, falls, potentialFrom}
 
@@ -101,7 +101,7 @@ module _ {n r : ℕ} {l : ℕ → ℕ} (few : n ≤ 64) (short : Short n r l) wh
       omega (arith, w .rest, lengths-most n r p l test y (2 ^ 16) (λ x h d. omega (arith, short x h d)), mul-le-mul-right (2 ^ 16) few)
 
   -- the cost of the first k edges
-  module _ (a b : ℕ → ℕ) (la : Within n a (2 ^ 31)) (lb : Within n b (2 ^ 31)) where
+  module _ (a b : ℕ → ℕ) (la : EachBelow n a (2 ^ 31)) (lb : EachBelow n b (2 ^ 31)) where
     edge-cost-lt : (x : ℕ) → x < n → inner r x (l x * gap (a x) (b x)) ≤ 2 ^ 47
     edge-cost-lt x h =
         case≡ x r

@@ -1,156 +1,69 @@
--- The pivot step by step: at first the subtree of a alone is hung on b, and each step takes in one parent more.
-use mathlib.Core.Path.{_≡_, refl, sym, _∙_, ap}
+-- The path from a up to c, which a pivot reverses: it is walked up to the parent of c, and each vertex on it gets the vertex before it for its parent.
+use mathlib.Core.Path.{_≡_, refl, sym, _∙_}
 use mathlib.Core.Bool.{true, false}
 use mathlib.Core.List.{List}
-use Prim.Native.Nat.{ℕ, _<_, _≤_}
-use native.Mathlib.Omega.{arith}
-use lib.ListN.{length, set, length-set}
-use lib.Seq.{getD-set-same, getD-set-other}
+use Prim.Native.Nat.{ℕ, _<_}
+use borrow.Author.Tests.{ne-eqb}
 use Rattle.arithmetic.specs.Table.{at}
-use Rattle.arithmetic.proofs.Laws.Bools.{case≡, is-false}
-use Rattle.rooted_tree.specs.Chain.{below, depth}
-use Rattle.rooted_tree.specs.Steps.Rooted.{Rooted}
-use Rattle.rooted_tree.proofs.Laws.Rooted.{refl-b, down-b, parent-b, trans-b, out-b, comparable, antisym, not-root, depth-step, parent-out}
-use Rattle.tree_pivot.specs.Steps.Pivot.{Pivot}
-use Rattle.tree_pivot.specs.Steps.PathReversal.{CanPivot, Pivoted}
+use Rattle.arithmetic.proofs.Laws.Bools.{clash, is-false, is-true, and-l}
+use Rattle.rooted_tree.specs.Chain.{below}
+use Rattle.rooted_tree.proofs.Laws.Rooted.{at-step, refl-b, parent-b, trans-b, out-b, comparable, parent-out}
+use Rattle.tree_pivot.specs.Steps.Pivot.{Cut, Pivot}
+use Rattle.tree_pivot.specs.Steps.PathWalk.{CanWalk, passed, Stored, Handed}
 use Rattle.tree_pivot.proofs.Laws.Pivot.{apart}
+use Rattle.tree_pivot.proofs.Laws.PathWalk.{met-not, and-not, toward-some}
 
-module _ {n r : ℕ} {p : ℕ → ℕ} (t : Rooted n r p) where
-  pub start : (a b : ℕ) (q : ℕ → ℕ) → a < n → b < n → (r ≡ a → ⊥) → below p n b a ≡ false
-      → q a ≡ b → ((x : ℕ) → (x ≡ a → ⊥) → q x ≡ p x) → Pivot n r p a b a q
-  start a b q la lb d eb h k = record {
-    tree = t;
-    a-low = la;
-    b-low = lb;
-    c-low = la;
-    c-root = d;
-    a-in = refl-b t a la;
-    b-out = eb;
-    hung = h;
-    reversed = λ x l e f g. absurd (g (antisym t a x la l f e));
-    side = λ x l e. k x (λ i. apart (λ u. below p n a u) (refl-b t a la) e (sym i));
-    out = λ x l e. k x (λ i. apart (λ u. below p n u a) (refl-b t a la) e (sym i));
+-- from a up to y, and not at y, each vertex has the vertex before it for its parent, and a has b
+abbrev pub ParentsTurned : ℕ → (a y b : ℕ) → (p q : List ℕ) → Type 0
+ParentsTurned n a y b p q = Stored n (at p) a y (Handed n (at p) a (λ z. z) b) p q
+
+module _ {n r : ℕ} {p : ℕ → ℕ} {a b c : ℕ} (cut : Cut n r p a b c) where
+  pub over-low : p c < n
+  over-low = cut .tree .into c (cut .c-low)
+
+  pub can-turn : CanWalk n r p a (p c)
+  can-turn = record {
+    tree = cut .tree;
+    from-low = cut .a-low;
+    stop-low = over-low;
+    up = trans-b (cut .tree) c (p c) a (cut .a-low) (cut .a-in) (parent-b (cut .tree) c (cut .c-low));
   }
 
-module _ {n r : ℕ} {p : ℕ → ℕ} {a b d : ℕ} {q : ℕ → ℕ} (v : Pivot n r p a b d q) where
-  -- the parent is no vertex of the subtree
-  above-out : below p n (p d) d ≡ false
-  above-out = parent-out (v .tree) d (v .c-low) (λ e. v .c-root (sym e))
+  -- what is above c and out of its subtree is above its parent
+  pub over-c : (x : ℕ) → below p n x c ≡ false → below p n c x ≡ below p n (p c) x
+  over-c x e =
+      rw (
+        at-step (cut .tree) c x (cut .c-low),
+        ne-eqb c x (apart (λ u. below p n u c) (refl-b (cut .tree) c (cut .c-low)) e),
+      )
 
-  -- what is on the path from a to the parent, and is not the parent, is on the path to d
-  within : (x : ℕ) → x < n → below p n a x ≡ true → below p n x (p d) ≡ true → (x ≡ p d → ⊥) → below p n x d ≡ true
-  within x l e f i =
-      let t = v .tree in
-      case≡ d x
-      (λ m. rw (← m) (refl-b t d (v .c-low)))
-      (λ m. comparable t d x a (v .a-low) (v .a-in) e (is-false _ (λ j.
-      i (antisym t (p d) x (t .into d (v .c-low)) l f (down-b t d x (v .c-low) j m)))))
+  -- no vertex of the subtree is above c's parent or above b
+  pub not-over : (x : ℕ) → below p n x c ≡ true → below p n (p c) x ≡ false
+  not-over x e = out-b (cut .tree) x c (p c) over-low e (parent-out (cut .tree) c (cut .c-low) (λ i. cut .c-root (sym i)))
 
-  pub step : (q' : ℕ → ℕ) → (r ≡ p d → ⊥) → below p n b (p d) ≡ false
-      → q' (p d) ≡ d → ((x : ℕ) → (x ≡ p d → ⊥) → q' x ≡ q x) → Pivot n r p a b (p d) q'
-  step q' dr eb h k =
-      let t = v .tree in
-      let lp : p d < n = t .into d (v .c-low) in
-      let d-in : below p n d (p d) ≡ true = parent-b t d (v .c-low) in
-      let a-in : below p n a (p d) ≡ true = trans-b t d (p d) a (v .a-low) (v .a-in) d-in in
-      record {
-        tree = t;
-        a-low = v .a-low;
-        b-low = v .b-low;
-        c-low = lp;
-        c-root = dr;
-        a-in = a-in;
-        b-out = eb;
-        hung = k a (apart (λ u. below p n u d) (v .a-in) above-out) ∙ v .hung;
-        reversed = λ x l e f g.
-            case≡ x (p d)
-            (λ i. rw (i, h) (record {
-              low = v .c-low;
-              from = v .a-in;
-              over = refl;
-              other = apart (λ u. below p n u d) (refl-b t d (v .c-low)) above-out;
-            }))
-            (λ i. rw (k x i) (v .reversed x l e (within x l e f i) g));
-        side = λ x l e. k x (λ i. apart (λ u. below p n a u) a-in e (sym i)) ∙ v .side x l e;
-        out = λ x l e.
-            k x (λ i. apart (λ u. below p n u (p d)) (refl-b t (p d) lp) e (sym i))
-            ∙ v .out x l (out-b t d (p d) x l d-in e);
-      }
+  pub not-b : (x : ℕ) → below p n x c ≡ true → below p n b x ≡ false
+  not-b x e = out-b (cut .tree) x c b (cut .b-low) e (cut .b-out)
 
--- the list l has become k; `up` is the next vertex to get a new parent, and `last` is to be it
-pub data Reversing (n : ℕ) (l : List ℕ) (r a b c : ℕ) (k : List ℕ) (up last : ℕ) : Type 0 where
-  begun : k ≡ l → up ≡ a → last ≡ b → Reversing n l r a b c k up last
-  going : Pivoted n l r a b last k → below (at l) n last c ≡ true → up ≡ at l last → Reversing n l r a b c k up last
+  -- the vertices met are those of the subtree above a
+  pub met-path : (x : ℕ) → below p n a x ≡ true → below p n x c ≡ true → passed n p a (p c) x ≡ true
+  met-path x f e = and-not _ _ f (not-over x e)
 
-module _ {n : ℕ} {l : List ℕ} {r a b c : ℕ} (can : CanPivot n l r a b c) where
-  pub reversing-none : Reversing n l r a b c l a b
-  reversing-none = begun refl refl refl
+  pub path-in : (x : ℕ) → passed n p a (p c) x ≡ true → below p n x c ≡ true
+  path-in x h =
+      is-true _ (λ e.
+      clash (sym (over-c x e) ∙ comparable (cut .tree) x c a (cut .a-low) (and-l (below p n a x) _ h) (cut .a-in) e)
+      (met-not (below p n a x) _ h))
 
-  module _ (k : List ℕ) (up last : ℕ) where
-    pub reversing-size : Reversing n l r a b c k up last → length k ≡ length l
-    reversing-size (begun e f g) = ap length e
-    reversing-size (going w i f) = w .size
+  pub unmet-out : (x : ℕ) → below p n x c ≡ false → passed n p a (p c) x ≡ false
+  unmet-out x e = is-false _ (λ h. clash (path-in x h) e)
 
-    pub reversing-low : Reversing n l r a b c k up last → up < n
-    reversing-low (begun e f g) = rw f (can .a-low)
-    reversing-low (going w i f) = rw f (can .tree .into last (w .pivot .c-low))
-
-    pub reversing-last : Reversing n l r a b c k up last → last < n
-    reversing-last (begun e f g) = rw g (can .b-low)
-    reversing-last (going w i f) = w .pivot .c-low
-
-    reversing-rest : Reversing n l r a b c k up last → (x : ℕ) → n ≤ x → at k x ≡ at l x
-    reversing-rest (begun e f g) x h = cc
-    reversing-rest (going w i f) x h = w .rest x h
-
-    reversing-kept : Reversing n l r a b c k up last → at k up ≡ at l up
-    reversing-kept (begun e f g) = cc
-    reversing-kept (going w i f) =
-        rw f (w .pivot .out (at l last) (can .tree .into last (w .pivot .c-low)) (above-out (w .pivot)))
-
-    pub reversing-next : Reversing n l r a b c k up last → at k up < n
-    reversing-next g = rw (reversing-kept g) (can .tree .into up (reversing-low g))
-
-    reversing-in : Reversing n l r a b c k up last → (last ≡ c → ⊥) → below (at l) n up c ≡ true
-    reversing-in (begun e f g) d = rw f (can .a-in)
-    reversing-in (going w i f) d = rw f (down-b (can .tree) last c (w .pivot .c-low) i d)
-
-    -- the depth of `up` falls
-    pub reversing-less : Reversing n l r a b c k up last → (last ≡ c → ⊥) → depth (at l) r n (at k up) < depth (at l) r n up
-    reversing-less g d =
-        rw (reversing-kept g)
-        (omega (arith, depth-step (can .tree) up (reversing-low g) (not-root (can .tree) c up (can .c-root) (reversing-in g d))))
-
-    -- b is below no vertex of the subtree, and no such vertex is the root
-    b-not : (x : ℕ) → below (at l) n x c ≡ true → below (at l) n b x ≡ false
-    b-not x h = out-b (can .tree) x c b (can .b-low) h (can .b-out)
-
-    no-root : (x : ℕ) → below (at l) n x c ≡ true → r ≡ x → ⊥
-    no-root x h e = not-root (can .tree) c x (can .c-root) h (sym e)
-
-    next : Reversing n l r a b c k up last → (last ≡ c → ⊥) → Pivot n r (at l) a b up (at (set k up last))
-    next (begun e f g) d =
-        rw (e, f, g)
-        (start (can .tree) a b (at (set l a b)) (can .a-low) (can .b-low) (no-root a (can .a-in)) (b-not a (can .a-in))
-        (getD-set-same l a b 0 (omega (arith, can .size, can .a-low))) (λ x h. getD-set-other l a x b 0 h))
-    next (going w i f) d =
-        let h : below (at l) n (at l last) c ≡ true = rw f at (reversing-in (going w i f) d) in
-        rw f
-        (step (w .pivot) (at (set k (at l last) last)) (no-root (at l last) h) (b-not (at l last) h)
-        (getD-set-same k (at l last) last 0 (omega (arith, w .size, can .size, can .tree .into last (w .pivot .c-low)))) (λ x i. getD-set-other k (at l last) x last 0 i))
-
-    pub reversing-more : Reversing n l r a b c k up last → (last ≡ c → ⊥) → Reversing n l r a b c (set k up last) (at k up) up
-    reversing-more g d =
-        going
-        (record {
-          size = length-set k up last ∙ reversing-size g;
-          rest = λ x h. getD-set-other k up x last 0 (omega (arith, reversing-low g)) ∙ reversing-rest g x h;
-          pivot = next g d;
-        })
-        (reversing-in g d)
-        (reversing-kept g)
-
-    pub reversing-end : Reversing n l r a b c k up last → last ≡ c → Pivoted n l r a b c k
-    reversing-end (begun e f g) h =
-        absurd (apart (λ u. below (at l) n u c) (refl-b (can .tree) c (can .c-low)) (can .b-out) (cc))
-    reversing-end (going w i f) h = rw h at w
+pub turned : {n r a b c : ℕ} {p q : List ℕ} → Cut n r (at p) a b c → ParentsTurned n a (at p c) b p q → Pivot n r (at p) a b c (at q)
+turned {n} {r} {a} {b} {c} {p} cut w = record {
+  cut = cut;
+  hung = w .done a (cut .a-low) (met-path cut a (refl-b (cut .tree) a (cut .a-low)) (cut .a-in)) .begins refl;
+  reversed = λ x l e f d.
+      let z = toward-some (cut .tree) x a (cut .a-low) e d in
+      rw (w .done x l (met-path cut x e f) .passes (z .0) (z .1)) (z .1);
+  side = λ x l e. w .kept x l (rw e);
+  out = λ x l e. w .kept x l (unmet-out cut x e);
+}

@@ -20,27 +20,27 @@ apart f e g h = clash (rw h at e) g
 
 module _ {n r : ℕ} {p : ℕ → ℕ} {a b c : ℕ} {q : ℕ → ℕ} (v : Pivot n r p a b c q) where
   pub root-out : below p n r c ≡ false
-  root-out = at-root (v .tree) c ∙ ne-eqb r c (v .c-root)
+  root-out = at-root (v .cut .tree) c ∙ ne-eqb r c (v .cut .c-root)
 
   self-a : below p n a a ≡ true
-  self-a = refl-b (v .tree) a (v .a-low)
+  self-a = refl-b (v .cut .tree) a (v .cut .a-low)
 
   reversed-in : (y : ℕ) → y < n → below p n a y ≡ true → below p n y c ≡ true → (y ≡ a → ⊥) → below p n (q y) c ≡ true
   reversed-in y l e f d =
       let z = v .reversed y l e f d in
-      up-b (v .tree) (q y) c (z .low) (cc)
+      up-b (v .cut .tree) (q y) c (z .low) (cc)
 
   pub place : (y : ℕ) → y < n → Place n p a c q y
   place y l =
       case (below p n y c)
       (λ e. case (below p n a y)
       (λ f. case≡ y a end (λ d. path f e (reversed-in y l f e d) d (v .reversed y l f e d)))
-      (λ f. side f e (down-b (v .tree) y c l e (λ h. apart (λ x. below p n a x) (v .a-in) f (sym h))) (v .side y l f)))
-      (λ e. out e (is-false _ (λ h. clash (up-b (v .tree) y c l h) e)) (v .out y l e))
+      (λ f. side f e (down-b (v .cut .tree) y c l e (λ h. apart (λ x. below p n a x) (v .cut .a-in) f (sym h))) (v .side y l f)))
+      (λ e. out e (is-false _ (λ h. clash (up-b (v .cut .tree) y c l h) e)) (v .out y l e))
 
   -- above the child of y towards a is what is above y, and the child
   toward-step : (y x : ℕ) → Toward n p a y (q y) → below p n (q y) x ≡ eqb (q y) x || below p n y x
-  toward-step y x z = cc (at-step (v .tree) (q y) x (z .low))
+  toward-step y x z = cc (at-step (v .cut .tree) (q y) x (z .low))
 
   -- ---- the new parents make a tree
 
@@ -55,34 +55,34 @@ module _ {n r : ℕ} {p : ℕ → ℕ} {a b c : ℕ} {q : ℕ → ℕ} (v : Pivo
   unfolding rank
   falls y l d =
       elim (place y l) [
-        | end e ↦ rw (e, v .hung, v .b-out, v .a-in, self-a) (omega (arith, depth-lt (v .tree) b (v .b-low)))
+        | end e ↦ rw (e, v .hung, v .cut .b-out, v .cut .a-in, self-a) (omega (arith, depth-lt (v .cut .tree) b (v .cut .b-low)))
         | path f e g h z ↦
             rw (e, f, g, z .from)
             (omega (
               arith,
-              depth-step (v .tree) (q y) (z .low) (apart (λ x. below p n x c) g root-out),
+              depth-step (v .cut .tree) (q y) (z .low) (apart (λ x. below p n x c) g root-out),
               ap (depth p r n) (z .over),
-              depth-mono (v .tree) (q y) a (v .a-low) (z .from),
+              depth-mono (v .cut .tree) (q y) a (v .cut .a-low) (z .from),
             ))
         | side f e g h ↦
             case (below p n a (p y))
-            (λ i. rw (h, e, f, g, i) (omega (arith, depth-lt (v .tree) a (v .a-low))))
-            (λ i. rw (h, e, f, g, i) (omega (arith, depth-step (v .tree) y l d)))
-        | out e f g ↦ rw (g, e, f) (omega (arith, depth-step (v .tree) y l d))
+            (λ i. rw (h, e, f, g, i) (omega (arith, depth-lt (v .cut .tree) a (v .cut .a-low))))
+            (λ i. rw (h, e, f, g, i) (omega (arith, depth-step (v .cut .tree) y l d)))
+        | out e f g ↦ rw (g, e, f) (omega (arith, depth-step (v .cut .tree) y l d))
       ]
 
   pub q-into : (y : ℕ) → y < n → q y < n
   q-into y l =
       elim (place y l) [
-        | end e ↦ rw (e, v .hung) (v .b-low)
+        | end e ↦ rw (e, v .hung) (v .cut .b-low)
         | path f e g h z ↦ z .low
-        | side f e g h ↦ rw h (v .tree .into y l)
-        | out e f g ↦ rw g (v .tree .into y l)
+        | side f e g h ↦ rw h (v .cut .tree .into y l)
+        | out e f g ↦ rw g (v .cut .tree .into y l)
       ]
 
   pub new-tree : Rooted n r q
   new-tree =
-      rooted-of-rank n r q rank (v .tree .root) (v .out r (v .tree .root) root-out ∙ v .tree .stay) q-into falls
+      rooted-of-rank n r q rank (v .cut .tree .root) (v .out r (v .cut .tree .root) root-out ∙ v .cut .tree .stay) q-into falls
 
   -- ---- what is below a vertex in the new tree
 
@@ -99,11 +99,11 @@ module _ {n r : ℕ} {p : ℕ → ℕ} {a b c : ℕ} {q : ℕ → ℕ} (v : Pivo
         | end e ↦ cc (eqb-self a)
         | path f e g h z ↦ cc (ne-eqb y a h)
         | side f e g h ↦ cc (differ-a a y self-a f)
-        | out e f g ↦ cc (differ-c a y (v .a-in) e)
+        | out e f g ↦ cc (differ-c a y (v .cut .a-in) e)
       ]
 
   pub below-a : (y : ℕ) → y < n → below q n y a ≡ below p n y c
-  below-a y l = sym (unique new-tree a (λ u. below p n u c) (cc (root-out, differ-c a r (v .a-in) root-out)) a-step y l)
+  below-a y l = sym (unique new-tree a (λ u. below p n u c) (cc (root-out, differ-c a r (v .cut .a-in) root-out)) a-step y l)
 
   module _ (x : ℕ) (ex : below p n x c ≡ false) where
     new-out : ℕ → Bool
@@ -113,29 +113,29 @@ module _ {n r : ℕ} {p : ℕ → ℕ} {a b c : ℕ} {q : ℕ → ℕ} (v : Pivo
     unfolding new-out
     out-step y l d =
         elim (place y l) [
-          | end e ↦ cc (eqb-sym a x, differ-c a x (v .a-in) ex)
+          | end e ↦ cc (eqb-sym a x, differ-c a x (v .cut .a-in) ex)
           | path f e g h z ↦ cc (eqb-sym y x, differ-c y x e ex)
           | side f e g h ↦ cc (eqb-sym y x, differ-c y x e ex)
-          | out e f g ↦ cc (at-step (v .tree) y x l)
+          | out e f g ↦ cc (at-step (v .cut .tree) y x l)
         ]
 
     pub below-out : (y : ℕ) → y < n → below q n y x ≡ cond (below p n y c) (below p n b x) (below p n y x)
     unfolding new-out
-    below-out y l = sym (unique new-tree x new-out (cc (root-out, at-root (v .tree) x)) out-step y l)
+    below-out y l = sym (unique new-tree x new-out (cc (root-out, at-root (v .cut .tree) x)) out-step y l)
 
   module _ (x : ℕ) (ex : below p n x c ≡ true) (fx : below p n a x ≡ false) where
     side-step : (y : ℕ) → y < n → (y ≡ r → ⊥) → below p n y x ≡ eqb y x || below p n (q y) x
     side-step y l d =
         elim (place y l) [
-          | end e ↦ cc (out-b (v .tree) x c b (v .b-low) ex (v .b-out), eqb-sym a x, differ-a a x self-a fx)
+          | end e ↦ cc (out-b (v .cut .tree) x c b (v .cut .b-low) ex (v .cut .b-out), eqb-sym a x, differ-a a x self-a fx)
           | path f e g h z ↦
               cc (eqb-sym y x, differ-a y x f fx, toward-step y x z, eqb-sym (q y) x, differ-a (q y) x (z .from) fx)
-          | side f e g h ↦ cc (at-step (v .tree) y x l)
-          | out e f g ↦ cc (at-step (v .tree) y x l)
+          | side f e g h ↦ cc (at-step (v .cut .tree) y x l)
+          | out e f g ↦ cc (at-step (v .cut .tree) y x l)
         ]
 
     pub below-side : (y : ℕ) → y < n → below q n y x ≡ below p n y x
-    below-side y l = sym (unique new-tree x (λ u. below p n u x) (at-root (v .tree) x) side-step y l)
+    below-side y l = sym (unique new-tree x (λ u. below p n u x) (at-root (v .cut .tree) x) side-step y l)
 
   module _ (x : ℕ) (k : x < n) (ex : below p n x c ≡ true) (fx : below p n a x ≡ true) (dx : x ≡ a → ⊥) where
     new-path : ℕ → Bool
@@ -145,7 +145,7 @@ module _ {n r : ℕ} {p : ℕ → ℕ} {a b c : ℕ} {q : ℕ → ℕ} (v : Pivo
     not-above : below p n x (q x) ≡ false
     not-above =
         let w = v .reversed x k fx ex dx in
-        is-false _ (λ h. w .other (antisym (v .tree) x (q x) k (w .low) (rw (w .over) at (parent-b (v .tree) (q x) (w .low))) h))
+        is-false _ (λ h. w .other (antisym (v .cut .tree) x (q x) k (w .low) (rw (w .over) at (parent-b (v .cut .tree) (q x) (w .low))) h))
 
     path-step : (y : ℕ) → y < n → (y ≡ r → ⊥) → new-path y ≡ eqb y x || new-path (q y)
     unfolding new-path
@@ -157,7 +157,7 @@ module _ {n r : ℕ} {p : ℕ → ℕ} {a b c : ℕ} {q : ℕ → ℕ} (v : Pivo
               case≡ y x
               (λ i. cc (not-above, eqb-self x))
               (λ i. cc (ne-eqb y x i, toward-step y (q x) z, ne-eqb (q y) (q x) (λ j. i (cc))))
-          | side f e g h ↦ cc (at-step (v .tree) y (q x) l, differ-a x y fx f, differ-a (q x) y (w .from) f)
+          | side f e g h ↦ cc (at-step (v .cut .tree) y (q x) l, differ-a x y fx f, differ-a (q x) y (w .from) f)
           | out e f g ↦ cc (differ-c x y ex e)
         ]
 
@@ -181,7 +181,7 @@ module _ {n r : ℕ} {p : ℕ → ℕ} {a b c : ℕ} {q : ℕ → ℕ} (v : Pivo
   total-path x k e f d =
       sym (sum-add n _ _) ∙ sum-ext n _ _ (λ y l.
       case (below p n y (q x))
-      (λ g. rw (below-path v x k e f d y l, g, trans-b (v .tree) (q x) c y l g (reversed-in v x k f e d)) (omega arith))
+      (λ g. rw (below-path v x k e f d y l, g, trans-b (v .cut .tree) (q x) c y l g (reversed-in v x k f e d)) (omega arith))
       (λ g. case (below p n y c)
       (λ h. rw (below-path v x k e f d y l, g, h) (omega arith))
       (λ h. rw (below-path v x k e f d y l, g, h) (omega arith))))
@@ -189,7 +189,7 @@ module _ {n r : ℕ} {p : ℕ → ℕ} {a b c : ℕ} {q : ℕ → ℕ} (v : Pivo
   -- a vertex out of the subtree is above all of it, or above none
   all-or-none : (x y : ℕ) → y < n → below p n x c ≡ false → below p n y c ≡ true → below p n y x ≡ below p n c x
   all-or-none x y l e f =
-      both _ _ (λ h. comparable (v .tree) x c y l h f e) (λ h. trans-b (v .tree) c x y l f h)
+      both _ _ (λ h. comparable (v .cut .tree) x c y l h f e) (λ h. trans-b (v .cut .tree) c x y l f h)
 
   pub total-out : (x : ℕ) → x < n → below p n x c ≡ false
       → subtotal q n m x + pick (below p n c x) (subtotal p n m c) ≡ subtotal p n m x + pick (below p n b x) (subtotal p n m c)

@@ -5,7 +5,7 @@ use mathlib.Core.Logic.{inl, inr, ⊎-elim}
 use Prim.Native.Nat.{ℕ, _+_, _*_, _^_, _≤_, _<_}
 use native.Mathlib.Omega.{arith}
 use borrow.Author.Tests.{ne-eqb}
-use Rattle.arithmetic.specs.Steps.Product.{Agrees}
+use Rattle.arithmetic.specs.Steps.Product.{gap, Agrees}
 use Rattle.arithmetic.proofs.Laws.Bools.{case, case≡}
 use Rattle.arithmetic.proofs.Laws.Sum.{sum-ge}
 use Rattle.rooted_tree.specs.Chain.{below, depth}
@@ -17,7 +17,7 @@ use Rattle.rooted_tree.proofs.Laws.Flow.{agrees-near}
 use Rattle.tree_pivot.specs.Steps.Pivot.{Pivot}
 use Rattle.tree_pivot.specs.Steps.PivotCost.{Potential}
 use Rattle.tree_pivot.specs.Steps.PivotTables.{shifted, Room}
-use Rattle.tree_pivot.specs.Steps.PivotPotential.{Violates, excess}
+use Rattle.tree_pivot.specs.Steps.PivotPotential.{Violated, Enters, violation}
 use Rattle.tree_pivot.proofs.Laws.Pivot.{root-out, q-into, a-step, new-tree, total-a}
 use Rattle.tree_pivot.proofs.Laws.PivotCost.{mirrored, new-agrees, pivot-falls, pivot-falls'}
 
@@ -26,6 +26,13 @@ agrees-more k u w d a b = ⊎-elim (λ h. inl (h .0, omega arith)) (λ h. inr (h
 
 agrees-less : (k u w d a b : ℕ) → Agrees (u + k) (w + k) d a b → Agrees u w d a b
 agrees-less k u w d a b = ⊎-elim (λ h. inl (h .0, omega arith)) (λ h. inr (h .0, omega arith))
+
+violated-gap : (rises : Bool) (u w long : ℕ) → Violated rises u w long → long ≤ gap u w
+violated-gap false u w long h = omega arith
+violated-gap true u w long h = omega arith
+
+pub enters-gap : {rises : Bool} {n : ℕ} {p m v U : ℕ → ℕ} {a b c long : ℕ} → Enters rises n p m v U a b c long → long ≤ gap (U a) (U b)
+enters-gap {rises} h = violated-gap rises _ _ _ (h .violated)
 
 -- over edges of at most 65535 a potential is no further from the root's than 65535 for each step
 pub near-root : {n r : ℕ} {p : ℕ → ℕ} (t : Rooted n r p) (W : ℕ → ℕ)
@@ -40,19 +47,19 @@ module _ {n r : ℕ} {p : ℕ → ℕ} {a b c : ℕ} {q : ℕ → ℕ} (w : Pivo
     {len : ℕ → ℕ → ℕ} (len-sym : (x y : ℕ) → len x y ≡ len y x)
     {m v U : ℕ → ℕ} (u : Potential n r p len m v U) where
   -- at every vertex but a the old potential agrees with the new flow
-  agrees-still : (rises : Bool) → Violates rises n p m v U a b c (len a b) → (x : ℕ) → x < n → (x ≡ r → ⊥) → (x ≡ a → ⊥)
+  agrees-still : (rises : Bool) → Enters rises n p m v U a b c (len a b) → (x : ℕ) → x < n → (x ≡ r → ⊥) → (x ≡ a → ⊥)
       → Agrees (U x) (U (q x)) (len x (q x)) (subtotal q n m x) (subtotal q n v x)
   agrees-still false h x l d ne = new-agrees w len-sym u (h .leaves) x l d ne
   agrees-still true h x l d ne =
       let s = sum-ge n x U l in
       let z = sum-ge n (q x) U (q-into w x l) in
       ⊎-elim (λ k. inr (k .0, omega arith)) (λ k. inl (k .0, omega arith))
-      (new-agrees w len-sym (mirrored (w .tree) u) (h .leaves) x l d ne)
+      (new-agrees w len-sym (mirrored (w .cut .tree) u) (h .leaves) x l d ne)
 
-  pub cost-falls : (rises : Bool) → Violates rises n p m v U a b c (len a b)
+  pub cost-falls : (rises : Bool) → Enters rises n p m v U a b c (len a b)
       → flowCost n r q (λ x. len x (q x)) m v < flowCost n r p (λ x. len x (p x)) m v
-  cost-falls false h = pivot-falls w len-sym u (h .leaves) (h .exceeds)
-  cost-falls true h = pivot-falls' w len-sym u (h .leaves) (h .exceeds)
+  cost-falls false h = pivot-falls w len-sym u (h .leaves) (h .violated)
+  cost-falls true h = pivot-falls' w len-sym u (h .leaves) (h .violated)
 
   -- both sides raised so that the edge between a and b is tight: what is added outside the subtree, and inside
   outside : Bool → ℕ
@@ -66,25 +73,25 @@ module _ {n r : ℕ} {p : ℕ → ℕ} {a b c : ℕ} {q : ℕ → ℕ} (w : Pivo
   raised : Bool → ℕ → ℕ
   raised rises x = U x + cond (below p n x c) (inside rises) (outside rises)
 
-  at-edge : (rises : Bool) → Violates rises n p m v U a b c (len a b)
+  at-edge : (rises : Bool) → Enters rises n p m v U a b c (len a b)
       → Agrees (U a + inside rises) (U b + outside rises) (len a b) (subtotal p n m c) (subtotal p n v c)
   unfolding inside outside
-  at-edge false h = inl (omega (arith, h .leaves .candidate .flow), omega arith)
-  at-edge true h = inr (omega (arith, h .leaves .candidate .flow), omega arith)
+  at-edge false h = inl (omega (arith, h .leaves .upward .flow), omega arith)
+  at-edge true h = inr (omega (arith, h .leaves .upward .flow), omega arith)
 
-  raised-agrees : (rises : Bool) → Violates rises n p m v U a b c (len a b) → (x : ℕ) → x < n → (x ≡ r → ⊥)
+  raised-agrees : (rises : Bool) → Enters rises n p m v U a b c (len a b) → (x : ℕ) → x < n → (x ≡ r → ⊥)
       → Agrees (raised rises x) (raised rises (q x)) (len x (q x)) (subtotal q n m x) (subtotal q n v x)
   unfolding raised
   raised-agrees rises h x l d =
       case≡ x a
-      (λ e. rw (e, w .hung, w .a-in, w .b-out, total-a w m, total-a w v) (at-edge rises h))
+      (λ e. rw (e, w .hung, w .cut .a-in, w .cut .b-out, total-a w m, total-a w v) (at-edge rises h))
       (λ ne.
       let same : below p n (q x) c ≡ below p n x c = sym (a-step w x l d ∙ rw (ne-eqb x a ne)) in
       rw same (agrees-more _ _ _ _ _ _ (agrees-still rises h x l d ne)))
 
   module _ (short : (x y : ℕ) → len x y ≤ 65535) (few : n ≤ 64) (grounded : U r ≡ 2 ^ 23) where
     -- it keeps near the root's: a step is at most 65535, and there are no more than 63
-    raised-near : (rises : Bool) → Violates rises n p m v U a b c (len a b) → (x : ℕ) → x < n
+    raised-near : (rises : Bool) → Enters rises n p m v U a b c (len a b) → (x : ℕ) → x < n
         → (raised rises x ≤ 2 ^ 23 + outside rises + 65535 * 63) × (2 ^ 23 + outside rises ≤ raised rises x + 65535 * 63)
     unfolding raised
     raised-near rises h x l =
@@ -98,20 +105,20 @@ module _ {n r : ℕ} {p : ℕ → ℕ} {a b c : ℕ} {q : ℕ → ℕ} (w : Pivo
         (omega arith, omega arith)
 
     -- the shift fits
-    pub shift-room : (rises : Bool) → Violates rises n p m v U a b c (len a b) → (x : ℕ) → x < n → below p n x c ≡ true
-        → Room 32 rises (excess rises (U a) (U b) (len a b)) (U x)
+    pub shift-room : (rises : Bool) → Enters rises n p m v U a b c (len a b) → (x : ℕ) → x < n → below p n x c ≡ true
+        → Room 32 rises (violation (U a) (U b) (len a b)) (U x)
     unfolding raised inside outside
-    shift-room false h x l e = let z = rw e at (raised-near false h x l .1) in omega (arith, h .exceeds)
-    shift-room true h x l e = let z = rw e at (raised-near true h x l .0) in omega (arith, h .exceeds)
+    shift-room false h x l e = let z = rw e at (raised-near false h x l .1) in omega (arith, h .violated)
+    shift-room true h x l e = let z = rw e at (raised-near true h x l .0) in omega (arith, h .violated)
 
-    shift-is : (rises : Bool) → Violates rises n p m v U a b c (len a b) → (x : ℕ) → x < n → below p n x c ≡ true
-        → shifted rises (excess rises (U a) (U b) (len a b)) (U x) + outside rises ≡ U x + inside rises
+    shift-is : (rises : Bool) → Enters rises n p m v U a b c (len a b) → (x : ℕ) → x < n → below p n x c ≡ true
+        → shifted rises (violation (U a) (U b) (len a b)) (U x) + outside rises ≡ U x + inside rises
     unfolding inside outside
-    shift-is false h x l e = let z = shift-room false h x l e in omega (arith, h .exceeds)
-    shift-is true h x l e = omega (arith, h .exceeds)
+    shift-is false h x l e = let z = shift-room false h x l e in omega (arith, h .violated)
+    shift-is true h x l e = omega (arith, h .violated)
 
-    module _ (rises : Bool) (h : Violates rises n p m v U a b c (len a b)) (U' : ℕ → ℕ)
-        (new : (x : ℕ) → x < n → U' x ≡ cond (below p n x c) (shifted rises (excess rises (U a) (U b) (len a b)) (U x)) (U x)) where
+    module _ (rises : Bool) (h : Enters rises n p m v U a b c (len a b)) (U' : ℕ → ℕ)
+        (new : (x : ℕ) → x < n → U' x ≡ cond (below p n x c) (shifted rises (violation (U a) (U b) (len a b)) (U x)) (U x)) where
       new-is : (x : ℕ) → x < n → U' x + outside rises ≡ raised rises x
       unfolding raised
       new-is x l =
@@ -129,4 +136,4 @@ module _ {n r : ℕ} {p : ℕ → ℕ} {a b c : ℕ} {q : ℕ → ℕ} (w : Pivo
       }
 
       pub new-grounded : U' r ≡ 2 ^ 23
-      new-grounded = new r (w .tree .root) ∙ rw (root-out w, grounded)
+      new-grounded = new r (w .cut .tree .root) ∙ rw (root-out w, grounded)

@@ -13,11 +13,8 @@ use Rattle.rooted_tree.specs.Chain.{below}
 use Rattle.rooted_tree.specs.Steps.Subtotal.{subtotal}
 use Rattle.tree_pivot.specs.Steps.Pivot.{Pivot}
 use Rattle.tree_pivot.specs.Steps.PivotTables.{Totals, TotalsMoved}
+use Rattle.tree_pivot.specs.Steps.SubtreeMasks.{Masks}
 use Rattle.tree_pivot.proofs.Laws.Pivot.{total-a}
-
--- the table has the mask of each vertex's subtree
-abbrev pub Masks : ℕ → (ℕ → ℕ) → List ℕ → Type 0
-Masks n p t = (x : ℕ) → x < n → at t x ≡ mask n (λ y. below p n y x)
 
 -- the mass of a vertex in its mask
 pub powers : ℕ → ℕ
@@ -38,7 +35,7 @@ powers-light n h = omega (arith, mask-sum n (λ y. true), mask-lt n (λ y. true)
 pub mask-totals : (n : ℕ) (p : ℕ → ℕ) (t : List ℕ) → Masks n p t → Totals n p powers t
 mask-totals n p t masks x l = masks x l ∙ mask-subtotal n p x
 
-module _ {n : ℕ} {p : List ℕ} {r a b c : ℕ} {t u : List ℕ} (moved : TotalsMoved n p r a b c t u) {q : ℕ → ℕ} (pivot : Pivot n r (at p) a b c q)
+module _ {n r : ℕ} {p : List ℕ} {a b c : ℕ} {t u : List ℕ} (moved : TotalsMoved n r p a b c t u) {q : ℕ → ℕ} (pivot : Pivot n r (at p) a b c q)
     (masks : Masks n (at p) t) where
   pub moved-masks : Masks n q u
   moved-masks x l = moved .totals q powers pivot (mask-totals n (at p) t masks) x l ∙ sym (mask-subtotal n q x)
@@ -46,4 +43,4 @@ module _ {n : ℕ} {p : List ℕ} {r a b c : ℕ} {t u : List ℕ} (moved : Tota
   -- the new subtree of a is the one that was cut off
   pub moved-subtree : at u a ≡ mask n (λ y. below (at p) n y c)
   moved-subtree =
-      moved .totals q powers pivot (mask-totals n (at p) t masks) a (pivot .a-low) ∙ total-a pivot powers ∙ sym (mask-subtotal n (at p) c)
+      moved .totals q powers pivot (mask-totals n (at p) t masks) a (pivot .cut .a-low) ∙ total-a pivot powers ∙ sym (mask-subtotal n (at p) c)

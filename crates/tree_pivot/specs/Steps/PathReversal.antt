@@ -1,29 +1,18 @@
--- The pivot step by step: at first the subtree of a alone is hung on b, and each step takes in one parent more.
+-- The path from a up to c, which a pivot reverses: it is walked up to the parent of c, and each vertex on it gets the vertex before it for its parent.
 use mathlib.Core.Path.{_≡_}
-use mathlib.Core.Bool.{true, false}
 use mathlib.Core.List.{List}
-use Prim.Native.Nat.{ℕ, _<_, _≤_}
+use Prim.Native.Nat.{ℕ}
 use lib.ListN.{length}
 use Rattle.arithmetic.specs.Table.{at}
-use Rattle.rooted_tree.specs.Chain.{below}
-use Rattle.rooted_tree.specs.Steps.Rooted.{Rooted}
 use Rattle.tree_pivot.specs.Steps.Pivot.{Pivot}
+use Rattle.tree_pivot.specs.Steps.PathWalk.{Stored, Handed}
 
--- ---- the same over a list of parents, of which the first n count
+-- from a up to y, and not at y, each vertex has the number of the vertex before it, and a the first
+abbrev pub PathAdvanced : ℕ → List ℕ → (a y first : ℕ) → (t u : List ℕ) → Type 0
+PathAdvanced n p a y first t u = Stored n (at p) a y (Handed n (at p) a (at t) first) t u
 
--- the subtree of c, which is not the root, can be hung by its vertex a on b, a vertex out of it
-pub record CanPivot (n : ℕ) (l : List ℕ) (r a b c : ℕ) : Type 0 where
-  pub size : n ≤ length l
-  pub tree : Rooted n r (at l)
-  pub a-low : a < n
-  pub b-low : b < n
-  pub c-low : c < n
-  pub c-root : r ≡ c → ⊥
-  pub a-in : below (at l) n a c ≡ true
-  pub b-out : below (at l) n b c ≡ false
-
--- the list l has become k: the subtree of c is hung by a on b, and the places from n on are as they were
-pub record Pivoted (n : ℕ) (l : List ℕ) (r a b c : ℕ) (k : List ℕ) : Type 0 where
-  pub size : length k ≡ length l
-  pub rest : (x : ℕ) → n ≤ x → at k x ≡ at l x
-  pub pivot : Pivot n r (at l) a b c (at k)
+-- the subtree of c is hung by a on b, by an edge of length `long`: the parents and the lengths above the vertices follow
+pub record PathReversed (n : ℕ) (p above : List ℕ) (r a b c long : ℕ) (p' above' : List ℕ) : Type 0 where
+  pub size : length p' ≡ length p
+  pub pivot : Pivot n r (at p) a b c (at p')
+  pub lengths : PathAdvanced n p a (at p c) long above above'

@@ -12,9 +12,8 @@ pub record Toward (n : ℕ) (p : ℕ → ℕ) (a x z : ℕ) : Type 0 where
   pub over : p z ≡ x
   pub other : z ≡ x → ⊥
 
--- p are the parents of a tree with root r, and q those after the subtree of c is hung by its vertex a on b, a vertex out of it: the path
--- from a up to c is reversed, and every other vertex keeps its parent
-pub record Pivot (n r : ℕ) (p : ℕ → ℕ) (a b c : ℕ) (q : ℕ → ℕ) : Type 0 where
+-- p are the parents of a tree with root r. The subtree of c, which is not the root, can be cut off and hung by its vertex a on b, a vertex out of it
+pub record Cut (n r : ℕ) (p : ℕ → ℕ) (a b c : ℕ) : Type 0 where
   pub tree : Rooted n r p
   pub a-low : a < n
   pub b-low : b < n
@@ -22,6 +21,10 @@ pub record Pivot (n r : ℕ) (p : ℕ → ℕ) (a b c : ℕ) (q : ℕ → ℕ) :
   pub c-root : r ≡ c → ⊥
   pub a-in : below p n a c ≡ true
   pub b-out : below p n b c ≡ false
+
+-- q are the parents after that: the path from a up to c is reversed, and every other vertex keeps its parent
+pub record Pivot (n r : ℕ) (p : ℕ → ℕ) (a b c : ℕ) (q : ℕ → ℕ) : Type 0 where
+  pub cut : Cut n r p a b c
   pub hung : q a ≡ b
   pub reversed : (x : ℕ) → x < n → below p n a x ≡ true → below p n x c ≡ true → (x ≡ a → ⊥) → Toward n p a x (q x)
   pub side : (x : ℕ) → x < n → below p n a x ≡ false → q x ≡ p x

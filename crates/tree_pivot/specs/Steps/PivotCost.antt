@@ -13,15 +13,15 @@ pub record Potential (n r : ℕ) (p : ℕ → ℕ) (len : ℕ → ℕ → ℕ) (
   pub nonzero : (x : ℕ) → x < n → (x ≡ r → ⊥) → subtotal p n m x ≡ subtotal p n v x → ⊥
   pub agrees : (x : ℕ) → x < n → (x ≡ r → ⊥) → Agrees (U x) (U (p x)) (len x (p x)) (subtotal p n m x) (subtotal p n v x)
 
--- x is above a and not above b, and its flow goes up
-pub record Candidate (n : ℕ) (p m v : ℕ → ℕ) (a b x : ℕ) : Type 0 where
+-- x is above a and not above b, and the flow more x - less x goes up from it
+pub record Upward (n : ℕ) (p more less : ℕ → ℕ) (a b x : ℕ) : Type 0 where
   pub low : x < n
   pub on : below p n a x ≡ true
   pub off : below p n b x ≡ false
-  pub flow : subtotal p n v x < subtotal p n m x
+  pub flow : less x < more x
 
--- c is a candidate on a's side whose flow is the least of the candidates on both sides
-pub record Leaving (n : ℕ) (p m v : ℕ → ℕ) (a b c : ℕ) : Type 0 where
-  pub candidate : Candidate n p m v a b c
-  pub least : (x : ℕ) → Candidate n p m v a b x → subtotal p n m c + subtotal p n v x ≤ subtotal p n m x + subtotal p n v c
-  pub least' : (x : ℕ) → Candidate n p v m b a x → subtotal p n m c + subtotal p n m x ≤ subtotal p n v x + subtotal p n v c
+-- an edge from a to b closes a cycle with paths of the tree: c is on a's side of it, with the least flow against it of both sides
+pub record Leaving (n : ℕ) (p more less : ℕ → ℕ) (a b c : ℕ) : Type 0 where
+  pub upward : Upward n p more less a b c
+  pub least : (x : ℕ) → Upward n p more less a b x → more c + less x ≤ more x + less c
+  pub least' : (x : ℕ) → Upward n p less more b a x → more c + more x ≤ less x + less c

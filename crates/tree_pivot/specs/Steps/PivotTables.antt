@@ -1,4 +1,4 @@
--- The tables of a pivot: what is kept of each vertex is brought from the old tree to the new one by walks along paths.
+-- The steps of a pivot: what is kept of each vertex is brought from the old tree to the new one by walks along paths.
 use mathlib.Core.Path.{_≡_}
 use mathlib.Core.Bool.{Bool, true, false, cond}
 use mathlib.Core.List.{List}
@@ -10,8 +10,7 @@ use Rattle.arithmetic.specs.Mask.{mask}
 use Rattle.arithmetic.specs.Steps.Mask.{bit}
 use Rattle.rooted_tree.specs.Chain.{below}
 use Rattle.rooted_tree.specs.Steps.Subtotal.{subtotal}
-use Rattle.tree_pivot.specs.Steps.Pivot.{Pivot}
-use Rattle.tree_pivot.specs.Steps.PathReversal.{CanPivot}
+use Rattle.tree_pivot.specs.Steps.Pivot.{Cut, Pivot}
 use Rattle.tree_pivot.specs.Steps.PathWalk.{CanWalk, passed, Stored, Handed}
 
 -- u, raised or lowered by d
@@ -26,31 +25,29 @@ Room w false d u = d ≤ u
 
 -- ---- one table along a path
 
+-- a tree of at most 64 vertices, a path in it, and a table
+pub record CanStore (n r : ℕ) (p : List ℕ) (from stop : ℕ) (t : List ℕ) : Type 0 where
+  pub few : n ≤ 64
+  pub walk : CanWalk n r (at p) from stop
+  pub size : length t ≡ 64
+
+-- the numbers on the path can be raised or lowered by d,
+pub record CanShift (n r : ℕ) (p : List ℕ) (from stop : ℕ) (rises : Bool) (d : ℕ) (t : List ℕ) : Type 0 where
+  pub store : CanStore n r p from stop t
+  pub room : (x : ℕ) → x < n → passed n (at p) from stop x ≡ true → Room 64 rises d (at t x)
+
+-- or taken from a total
+pub record CanComplement (n r : ℕ) (p : List ℕ) (a stop total : ℕ) (t : List ℕ) : Type 0 where
+  pub store : CanStore n r p a stop t
+  pub least : (x : ℕ) → x < n → passed n (at p) a stop x ≡ true → at t x ≤ total
+
 -- the numbers from `from` up to y, and not y's, are raised or lowered by d
 abbrev pub PathShifted : ℕ → List ℕ → (from y : ℕ) → Bool → ℕ → (t u : List ℕ) → Type 0
 PathShifted n p from y rises d t u = Stored n (at p) from y (λ x k. k ≡ shifted rises d (at t x)) t u
 
-pub record CanShiftPath (n : ℕ) (p : List ℕ) (r from stop : ℕ) (rises : Bool) (d : ℕ) (t : List ℕ) : Type 0 where
-  pub size : n ≤ length p
-  pub walk : CanWalk n r (at p) from stop (length t)
-  pub room : (x : ℕ) → x < n → passed n (at p) from stop x ≡ true → Room 64 rises d (at t x)
-
 -- from a up to y, and not at y, each vertex has the total less the number of the vertex before it
 abbrev pub PathComplemented : ℕ → List ℕ → (a y total : ℕ) → (t u : List ℕ) → Type 0
-PathComplemented n p a y total t u = Stored n (at p) a y (λ x k. (e : ℕ) × (Handed n (at p) a t 0 x e × (k ≡ total - e))) t u
-
-pub record CanComplementPath (n : ℕ) (p : List ℕ) (r a stop total : ℕ) (t : List ℕ) : Type 0 where
-  pub size : n ≤ length p
-  pub walk : CanWalk n r (at p) a stop (length t)
-  pub part : (x : ℕ) → x < n → passed n (at p) a stop x ≡ true → at t x ≤ total
-
--- from a up to y, and not at y, each vertex has the number of the vertex before it, and a the first
-abbrev pub PathAdvanced : ℕ → List ℕ → (a y first : ℕ) → (t u : List ℕ) → Type 0
-PathAdvanced n p a y first t u = Stored n (at p) a y (Handed n (at p) a t first) t u
-
-pub record CanAdvancePath (n : ℕ) (p : List ℕ) (r a stop : ℕ) (t : List ℕ) : Type 0 where
-  pub size : n ≤ length p
-  pub walk : CanWalk n r (at p) a stop (length t)
+PathComplemented n p a y total t u = Stored n (at p) a y (λ x k. (e : ℕ) × (Handed n (at p) a (at t) 0 x e × (k ≡ total - e))) t u
 
 -- ---- the subtotals of one mass
 
@@ -59,9 +56,10 @@ abbrev pub Totals : ℕ → (ℕ → ℕ) → (ℕ → ℕ) → List ℕ → Typ
 Totals n p f t = (x : ℕ) → x < n → at t x ≡ subtotal p n f x
 
 -- the subtree of c can be hung by a on b; j is above both sides
-pub record CanMoveTotals (n : ℕ) (p : List ℕ) (r a b c j : ℕ) (t : List ℕ) : Type 0 where
-  pub can : CanPivot n p r a b c
-  pub size : n ≤ length t
+pub record CanMove (n r : ℕ) (p : List ℕ) (a b c j : ℕ) (t : List ℕ) : Type 0 where
+  pub few : n ≤ 64
+  pub cut : Cut n r (at p) a b c
+  pub size : length t ≡ 64
   pub j-low : j < n
   pub over-b : below (at p) n b j ≡ true
   pub over-c : below (at p) n c j ≡ true
@@ -70,14 +68,14 @@ pub record CanMoveTotals (n : ℕ) (p : List ℕ) (r a b c j : ℕ) (t : List �
   pub totals : Totals n (at p) mass t
 
 -- the totals of the old tree have become those of the new one
-pub record TotalsMoved (n : ℕ) (p : List ℕ) (r a b c : ℕ) (t u : List ℕ) : Type 0 where
+pub record TotalsMoved (n r : ℕ) (p : List ℕ) (a b c : ℕ) (t u : List ℕ) : Type 0 where
   pub size : length u ≡ length t
   pub totals : (q f : ℕ → ℕ) → Pivot n r (at p) a b c q → Totals n (at p) f t → Totals n q f u
 
 -- ---- the potential of a subtree, given by its mask
 pub record CanShiftPotential (n subtree : ℕ) (rises : Bool) (d : ℕ) (t : List ℕ) : Type 0 where
   pub few : n ≤ 64
-  pub size : n ≤ length t
+  pub size : length t ≡ 64
   pub word : subtree ≡ mask n (bit subtree)
   pub room : (x : ℕ) → x < n → bit subtree x ≡ true → Room 32 rises d (at t x)
 

@@ -7,8 +7,8 @@ use Rattle.arithmetic.specs.Table.{at}
 use Rattle.arithmetic.specs.Steps.Fill.{Filled}
 use Rattle.rooted_tree.specs.Steps.Subtotal.{subtotal}
 use Rattle.rooted_tree.proofs.Laws.Subtotal.{subtotal-le}
-use Rattle.tree_walks.specs.Steps.Sums.{Within}
+use Rattle.arithmetic.specs.Steps.Table.{EachBelow}
 
 pub subtotals-within : (p : ℕ → ℕ) (n : ℕ) (m : ℕ → ℕ) (k : ℕ) (old new : List ℕ) → Filled n (subtotal p n m) old new → sum n m < k
-    → Within n (at new) k
+    → EachBelow n (at new) k
 subtotals-within p n m k old new w h x l = omega (arith, w .each x l, subtotal-le p n m x)

@@ -13,6 +13,13 @@ returns c =
     let k : tie.After-answer-image = search in
     run-refused _ (k .answer-image .ensures) (λ z. omega (arith, c .if1 .taken))
 
+returns-2 : tie.Need-returns-2
+returns-2 c =
+    let k : tie.After-answer-image = search in
+    let e : tie.Else1 = search in
+    let w : tie.After-write-record = search in
+    run-done _ (k .answer-image .ensures) (omega (arith, e .if1 .left)) (w .write-record .ensures)
+
 slice-aggregate-write-record : tie.Need-slice-aggregate-write-record
 slice-aggregate-write-record c =
     let k : tie.After-answer-image = search in
@@ -28,13 +35,6 @@ write-record-requires c κs =
     let z : k .answer-image .result .refusal ≡ 0 = omega (arith, e .if1 .left) in
     let few = answer-few a z in
     (few .0, root-below a z, omega (arith, potentials-long a z (omega arith)), omega (arith, plan-room a z (start .pre)), run-room (start .args .buffer .now) a z)
-
-returns-2 : tie.Need-returns-2
-returns-2 c =
-    let k : tie.After-answer-image = search in
-    let e : tie.Else1 = search in
-    let w : tie.After-write-record = search in
-    run-done _ (k .answer-image .ensures) (omega (arith, e .if1 .left)) (w .write-record .ensures)
 
 pub run-spec : {M : Type 1} → statement M
 run-spec =

@@ -22,10 +22,10 @@ use Rattle.tree_figures.specs.Figures.{treeCost}
 use Rattle.duality.specs.BestCost.{bestCost}
 use Rattle.duality.proofs.Laws.Best.{IntegerCertificate, certified-best}
 use Rattle.image.specs.Image.{amount}
-use Rattle.image_answer.specs.ImageAnswer.{graphOf, BestAnswer}
+use Rattle.image_answer.specs.ImageAnswer.{graphOfImage, BestAnswer}
 use Rattle.image_answer.proofs.Laws.Passed.{passed}
 use Rattle.weight_mover.specs.Run.{runRefusal}
-use Rattle.worked_cases.specs.Figures.{Case, Bytes, Certificate, said, sameℤ, potentialOf, withinEdge, certifies, certified, holds, reads, room, every}
+use Rattle.worked_cases.specs.Figures.{Case, Bytes, BestFigures, said, sameℤ, potentialOf, withinEdge, certifies, certified, holds, reads, room, every}
 use Rattle.worked_cases.specs.Cases.{cases, images}
 use Rattle.worked_cases.specs.Best.{BestOf}
 use Rattle.worked_cases.proofs.Laws.Theorem.{cases-hold}
@@ -43,7 +43,7 @@ every-at f [] h m = absurd (List·Memᴰ·not-nil m)
 every-at f (y ∷ l) h m =
     ⊎-elim (λ e. ap f e ∙ and-l (f y) _ h) (λ k. every-at f l (and-r (f y) _ h) k) (List·Memᴰ·cases-cons m)
 
-module _ (g : Graph) (mu nu : ℕ → ℕ) (k : Certificate) where
+module _ (g : Graph) (mu nu : ℕ → ℕ) (k : BestFigures) where
   -- what its test says
   cost-is : certifies g mu nu k ≡ true → treeCost g 0 (at (k .parents)) mu nu ≡ k .cost
   unfolding certifies
@@ -77,7 +77,7 @@ module _ (g : Graph) (mu nu : ℕ → ℕ) (k : Certificate) where
         rw (cost-is ok) at (certified-best g acc mu nu (at (k .parents)) (potentialOf k) same (certificate ok))
 
 -- ---- the table
-case-best : (c : Case) → holds c ≡ true → (k : Certificate) → c .best ≡ said k → BestOf (c .patch) (at (c .lent .mu)) (at (c .lent .nu)) k
+case-best : (c : Case) → holds c ≡ true → (k : BestFigures) → c .best ≡ said k → BestOf (c .patch) (at (c .lent .mu)) (at (c .lent .nu)) k
 unfolding holds
 case-best c h k e =
     let g = c .patch in
@@ -87,13 +87,13 @@ case-best c h k e =
     let rest = and-r (eqb (givenRefusal g (c .lent) true) (c .refusal)) _ h in
     let best : certified g mu nu (c .refusal) (said k) ≡ true = rw e at (and-l (certified g mu nu (c .refusal) (c .best)) _ rest) in
     let a = given-passed g (c .lent) true (number ∙ figure-number g mu nu k (c .refusal) best) .0 in
-    figure-best g mu nu k (c .refusal) best (a .graph) (a .same-total)
+    figure-best g mu nu k (c .refusal) best (a .problem .accepted) (a .problem .before .total ∙ sym (a .problem .after .total))
 
-image-best : (b : Bytes) → reads b ≡ true → (k : Certificate) → b .best ≡ said k → BestAnswer (b .image) (at (k .parents)) (potentialOf k)
+image-best : (b : Bytes) → reads b ≡ true → (k : BestFigures) → b .best ≡ said k → BestAnswer (b .image) (at (k .parents)) (potentialOf k)
 unfolding reads
 image-best b h k e =
     let s = b .image in
-    let g = graphOf s in
+    let g = graphOfImage s in
     let mu = amount s 0 in
     let nu = amount s 1 in
     let number = eqb-true _ _ (and-l (eqb (runRefusal s (room 0)) (b .refusal)) _ h) in
@@ -103,11 +103,11 @@ image-best b h k e =
     rw (figure-cost g mu nu k (b .refusal) best) (figure-best g mu nu k (b .refusal) best (a .accepted) (a .same))
 
 -- every case of the table that has a best figure: no plan and no spanning tree costs less than its certificate, and all of demand 3
-pub cases-best : {c : Case} → List·Memᴰ c cases → {k : Certificate} → c .best ≡ said k
+pub cases-best : {c : Case} → List·Memᴰ c cases → {k : BestFigures} → c .best ≡ said k
     → BestOf (c .patch) (at (c .lent .mu)) (at (c .lent .nu)) k
 cases-best {c} m {k} e = case-best c (every-at holds cases (and-l (every holds cases) _ cases-hold) m) k e
 
 -- every image that has one: its tree and potential are a best answer of the entry
-pub images-best : {b : Bytes} → List·Memᴰ b images → {k : Certificate} → b .best ≡ said k
+pub images-best : {b : Bytes} → List·Memᴰ b images → {k : BestFigures} → b .best ≡ said k
     → BestAnswer (b .image) (at (k .parents)) (potentialOf k)
 images-best {b} m {k} e = image-best b (every-at reads images (and-r (every holds cases) _ cases-hold) m) k e

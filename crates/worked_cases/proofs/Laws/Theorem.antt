@@ -16,10 +16,10 @@ use Rattle.graph.specs.Graph.{joined, edgeLength}
 use Rattle.graph.specs.Checks.{verticesOk, listsFit, edgeFits, lengthFits, reached, connected, sizeChecks, edgeChecks}
 use Rattle.tree_checks.specs.Checks.{parentsOk, treeEdgesOk, chainsOk, treeChecks}
 use Rattle.measures.specs.Checks.{totalOk, totalsEqual, measureChecks}
-use Rattle.spanning_tree.specs.Given.{tablesOk, answersOk}
+use Rattle.spanning_tree.specs.Given.{parentsLong, answersOk}
 use Rattle.plan_rule.specs.Plan.{moved, matched, layer, layers, plan, moves}
 use Rattle.tree_figures.specs.Figures.{imbalance, potential, treeCost}
-use Rattle.duality.specs.BestCost.{least, tables, costs, bestCost}
+use Rattle.duality.specs.BestCost.{least, parentTables, costs, bestCost}
 use Rattle.transport_problem.specs.Checks.{measuresLong}
 use Rattle.optimal_transport.specs.Solve.{solveRefusal}
 use Rattle.little_endian.specs.LittleEndian.{two, byteOf}
@@ -30,15 +30,16 @@ use Rattle.image_reader.specs.Read.{roomOk}
 use Rattle.image_answer.specs.ImageAnswer.{answerRefusal}
 use Rattle.weight_mover.specs.Run.{answerRecord, evaluatedRecord}
 use Rattle.decimal_text.specs.Decimal.{digits}
-use Rattle.listing.specs.Listing.{entryLine, rowLines, planLines, listing, evaluatedListing}
+use Rattle.listing_lines.specs.Lines.{entryLine, rowLines, planLines}
+use Rattle.listing.specs.Listing.{listing, evaluatedListing}
 use Rattle.worked_cases.specs.Figures.{sames, certifies, holds, reads, every}
 use Rattle.worked_cases.specs.Cases.{image-b, cases, images}
 
 pub cases-hold : every holds cases && every reads images ≡ true
-unfolding all any sum sumℤ tab rows climb below depth joined edgeLength refusal verticesOk listsFit edgeFits lengthFits reached connected sizeChecks edgeChecks totalOk totalsEqual parentsOk treeEdgesOk chainsOk measureChecks treeChecks tablesOk answersOk imbalance potential treeCost flatMap least tables costs bestCost measuresLong solveRefusal lowest moved layer layers plan moves two sizeOk sectionOk layoutOk roomOk imageChecks byteOf recordBytes answerRefusal evaluatedRecord digits entryLine rowLines planLines evaluatedListing listing sames certifies holds reads every cases images matched
+unfolding all any sum sumℤ tab rows climb below depth joined edgeLength refusal verticesOk listsFit edgeFits lengthFits reached connected sizeChecks edgeChecks totalOk totalsEqual parentsOk treeEdgesOk chainsOk measureChecks treeChecks parentsLong answersOk imbalance potential treeCost flatMap least parentTables costs bestCost measuresLong solveRefusal lowest moved layer layers plan moves two sizeOk sectionOk layoutOk roomOk imageChecks byteOf recordBytes answerRefusal evaluatedRecord digits entryLine rowLines planLines evaluatedListing listing sames certifies holds reads every cases images matched
 cases-hold = refl
 
 -- the record of B's image without a tree begins with the best cost, whichever tree and potential come back
 pub image-b-cost : (p : ℕ → ℕ) (u : ℕ → ℤ) → take 8 (answerRecord (image-b .image) p u) ≡ 4 ∷ 0 ∷ 0 ∷ 0 ∷ 0 ∷ 0 ∷ 0 ∷ 0 ∷ []
-unfolding all any sum sumℤ tab rows climb below joined edgeLength refusal treeChecks parentsOk treeEdgesOk chainsOk imbalance treeCost flatMap least tables costs bestCost two byteOf recordBytes
+unfolding all any sum sumℤ tab rows climb below joined edgeLength refusal treeChecks parentsOk treeEdgesOk chainsOk imbalance treeCost flatMap least parentTables costs bestCost two byteOf recordBytes
 image-b-cost p u = refl

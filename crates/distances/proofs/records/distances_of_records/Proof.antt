@@ -40,8 +40,8 @@ use denote.Exit.{yes as kept}
 use Rattle.distances.specs.declared.records.EdgeRecord.{EdgeRecord}
 use Rattle.distances.specs.declared.records.Columns.{Columns}
 use Rattle.distances.specs.Distances.{distancesRefusal, distancesTable}
-use Rattle.distances.specs.Records.{graphOf}
-use Rattle.distances.specs.Steps.Records.{taken, OfColumns}
+use Rattle.distances.specs.Records.{graphOfRecords}
+use Rattle.distances.specs.Steps.Records.{columnsOf, OfColumns}
 use Rattle.distances.proofs.Laws.RecordCases.{full, of-records}
 use Rattle.distances.proofs.records.EdgeRecord as E
 use Rattle.distances.proofs.records.Columns as T
@@ -115,7 +115,7 @@ module _ {M : Type 1} (𝓤 : URA M) (H : Heap 𝓤) (A : Atoms 𝓤) (W : Given
   abbrev Post : Val → SProp 𝓤
   Post = walkOf 𝓤 H A top.ended stayed (top.clauses 𝓤 H A mem run) .post (((κ, (λ₁, tt)), (q, (q₁, tt)), tt, a, vals), tt)
 
-  exits : (r : ℕ) (v : Val) (zs : List ℕ) → (r ≡ distancesRefusal (graphOf n ys) os) × (zs ≡ distancesTable (graphOf n ys) os) → length zs ≡ length os
+  exits : (r : ℕ) (v : Val) (zs : List ℕ) → (r ≡ distancesRefusal (graphOfRecords n ys) os) × (zs ≡ distancesTable (graphOfRecords n ys) os) → length zs ≡ length os
       → ent 𝓤 (⋆ 𝓤 H A ((‵ (flft κ q) ⊛ ‵ ftrue) ∷ (‵ (flft λ₁ q₁) ⊛ ‵ ftrue) ∷ ‵ N ∷ ‵ Own ∷ ‵ (finally u32 δ zs) ∷ ‵ (u32 .own r (v ∷ [])) ∷ [])) (Post v)
   exits r v zs e l =
       qed W ((‵ (flft κ q) ⊛ ‵ ftrue) ∷ (‵ (flft λ₁ q₁) ⊛ ‵ ftrue) ∷ ‵ N ∷ ‵ Own ∷ ‵ (finally u32 δ zs) ∷ ‵ (u32 .own r (v ∷ [])) ∷ []) ∵
@@ -141,20 +141,20 @@ module _ {M : Type 1} (𝓤 : URA M) (H : Heap 𝓤) (A : Atoms 𝓤) (W : Given
       qed W (‵ (flft κ q) ∷ ‵ Own ∷ []) ∵ says ! pre $ nothing ! $ move ! (1 ∷ 0 ∷ []) $ join ! $ frame ! $
       nothing ! $ owned ! usize (Is usize) (uint-makes 𝓤 H A W w64) k _ is $ fjoin ! $ move ! (1 ∷ 0 ∷ []) $ fjoin ! $ done !
 
-  said-apart : (k : ℕ) (r : Columns) → ent 𝓤 (ensured 𝓤 H A apart.ended (apart.clauses 𝓤 H A mem run) (κ, tt) (x, (k, tt)) tt r) (fact 𝓤 (r ≡ taken ys k))
-  said-apart k r = exE 𝓤 _ (λ ws. snd∗ 𝓤 (sem 𝓤 H A (lasts apart.ended (κ, tt) (x, (k, tt)) ws)) (fact 𝓤 (r ≡ taken ys k)))
+  said-apart : (k : ℕ) (r : Columns) → ent 𝓤 (ensured 𝓤 H A apart.ended (apart.clauses 𝓤 H A mem run) (κ, tt) (x, (k, tt)) tt r) (fact 𝓤 (r ≡ columnsOf ys k))
+  said-apart k r = exE 𝓤 _ (λ ws. snd∗ 𝓤 (sem 𝓤 H A (lasts apart.ended (κ, tt) (x, (k, tt)) ws)) (fact 𝓤 (r ≡ columnsOf ys k)))
 
   abbrev to-core : Columns → Val → Core 𝓤 H A mem run .Ghost
   to-core c u = (((λ₁, tt), (q₁, tt), tt, (n, (m, (c, (z, tt)))), (vint w64 n ∷ [], (vint w64 m ∷ [], (u ∷ [], (t ∷ [], tt))))), tt)
 
-  goes-core : (k : ℕ) (c : Columns) (u : Val) → k ≤ 512 → c ≡ taken ys k → m < 2 ^ 64 → Is T.the-row c (u ∷ []) → ent 𝓤 (sep 𝓤 (A .lft λ₁ q₁) (sem 𝓤 H A Out)) (Core 𝓤 H A mem run .pre (to-core c u))
+  goes-core : (k : ℕ) (c : Columns) (u : Val) → k ≤ 512 → c ≡ columnsOf ys k → m < 2 ^ 64 → Is T.the-row c (u ∷ []) → ent 𝓤 (sep 𝓤 (A .lft λ₁ q₁) (sem 𝓤 H A Out)) (Core 𝓤 H A mem run .pre (to-core c u))
   goes-core k c u h e g is =
       qed W (‵ (flft λ₁ q₁) ∷ ‵ Out ∷ []) ∵ says ! (rw e (full ys k h)) $ nothing ! $ move ! (1 ∷ 0 ∷ []) $ join ! $ frame ! $
       nothing ! $ move ! (1 ∷ 0 ∷ []) $ fjoin ! $ owned ! T.the-row (Is T.the-row) (LL.makes T.the-type T′.the-plain 𝓤 H A) c _ is $ fjoin ! $
       owned ! usize (Is usize) (uint-makes 𝓤 H A W w64) m _ (refl, g) $ fjoin ! $ owned ! usize (Is usize) (uint-makes 𝓤 H A W w64) n _ (refl, gn) $ fjoin ! $ done !
 
-  answers : (k : ℕ) (c : Columns) (r : ℕ) (zs : List ℕ) → k ≡ min m 512 → c ≡ taken ys k → OfColumns n m c os r zs
-      → (r ≡ distancesRefusal (graphOf n ys) os) × (zs ≡ distancesTable (graphOf n ys) os)
+  answers : (k : ℕ) (c : Columns) (r : ℕ) (zs : List ℕ) → k ≡ min m 512 → c ≡ columnsOf ys k → OfColumns n m c os r zs
+      → (r ≡ distancesRefusal (graphOfRecords n ys) os) × (zs ≡ distancesTable (graphOfRecords n ys) os)
   answers k c r zs e₁ e₂ d = of-records n ys k os r zs e₁ (rw e₂ at d)
 
   module _ (C : Calls 𝓤 H) (Λ : Loops 𝓤 H) (fm : FmC 𝓤 H (W .laws) C) (known-few : Triple 𝓤 (C #few) (Few 𝓤 H A mem run)) (known-apart : Triple 𝓤 (C #apart) (Apart 𝓤 H A mem run)) (known-core : Triple 𝓤 (C #core) (Core 𝓤 H A mem run)) where
@@ -178,7 +178,7 @@ module _ {M : Type 1} (𝓤 : URA M) (H : Heap 𝓤) (A : Atoms 𝓤) (W : Given
         move ! (2 ∷ 0 ∷ []) $ use2 W (raw (Apart 𝓤 H A mem run .pre (to-apart k u₁))) (goes-apart k u₁ (below k e₁) is₁) $
         calls-at ! fm (Apart 𝓤 H A mem run) known-apart (to-apart k u₁) (and-then ! (load ! (from ! (stop !)) (look ! 17 refl)) (and-then ! (load ! (from ! (stop !)) (look ! 11 refl)) (no-more !))) (λ u₂.
         use1 W (later (some (λ (r : Columns). ((‵ (flft κ q) ⊛ ‵ ftrue) ⊛ ‵ (T.the-row .own r (u₂ ∷ []))) ⊛ raw (ensured 𝓤 H A apart.ended (apart.clauses 𝓤 H A mem run) (κ, tt) (x, (k, tt)) tt r)))) (id⊢ 𝓤 _) $ await ! tt $ pick ! (λ c.
-        split ! $ move ! (1 ∷ []) $ use1 W (raw (fact 𝓤 (c ≡ taken ys k))) (said-apart k c) $ heard ! (c ≡ taken ys k) (λ e₂. split ! $ move ! (1 ∷ []) $
+        split ! $ move ! (1 ∷ []) $ use1 W (raw (fact 𝓤 (c ≡ columnsOf ys k))) (said-apart k c) $ heard ! (c ≡ columnsOf ys k) (λ e₂. split ! $ move ! (1 ∷ []) $
         facts ! T.the-row (Is T.the-row) (shows 𝓤 H A T.the-row) c (u₂ ∷ []) (λ is₂.
         land ! (from ! (stop !)) (init ! 9 refl (LL.lawful T.the-type T′.the-laws 𝓤 H A W .typed c _ is₂ .0)) $
         assigns ! (addr ! (from ! (fld ! refl (hop ! (look-in ! 15 (sub ! 0 refl (whole !))) (stop !))))) (from ! (stop !)) (init ! 7 refl (tt, tt)) $

@@ -51,7 +51,7 @@ use denote.Exit.{yes as kept}
 use Rattle.distances.specs.declared.records.EdgeRecord.{EdgeRecord}
 use Rattle.distances.specs.declared.records.Columns.{Columns}
 use Rattle.distances.specs.Records.{lowerOf, upperOf, lengthOf}
-use Rattle.distances.specs.Steps.Records.{noEdge, column, taken}
+use Rattle.distances.specs.Steps.Records.{noEdge, column, columnsOf}
 use Rattle.distances.proofs.Laws.RecordCases.{length-column, column-none, column-more}
 use Rattle.distances.proofs.records.EdgeRecord as E
 use Rattle.distances.proofs.records.EdgeRecord.Laws as E′
@@ -135,7 +135,7 @@ module _ {M : Type 1} (𝓤 : URA M) (H : Heap 𝓤) (A : Atoms 𝓤) (W : Given
   typed : (xs : List ℕ) (v : Val) → Is Arr xs (v ∷ []) → Holds (hasTy arr v) × WT v
   typed xs v is = array-typed u32 (uint-lawful 𝓤 H A W w32 .typed) 512 xs (v ∷ []) is .0
 
-  exits : (r : Columns) (v : Val) → r ≡ taken ys m → Is T.the-row r (v ∷ []) → ent 𝓤 (⋆ 𝓤 H A (‵ (flft κ q) ∷ ‵ (ShrSlice (named 0) κ E.the-row .own (x .0) (at .0)) ∷ Rest ∷ [])) (Post v)
+  exits : (r : Columns) (v : Val) → r ≡ columnsOf ys m → Is T.the-row r (v ∷ []) → ent 𝓤 (⋆ 𝓤 H A (‵ (flft κ q) ∷ ‵ (ShrSlice (named 0) κ E.the-row .own (x .0) (at .0)) ∷ Rest ∷ [])) (Post v)
   exits r v e is =
       qed W (‵ (flft κ q) ∷ ‵ (ShrSlice (named 0) κ E.the-row .own (x .0) (at .0)) ∷ Rest ∷ []) ∵
       suffices ! _ (ends-at 𝓤 H A take-apart.ended stayed (take-apart.clauses 𝓤 H A mem run) W (((κ, tt), (q, tt), tt, x, at), tt) v r (tt, (tt, tt)) (tt, (tt, tt))) $ says ! e $
@@ -265,19 +265,19 @@ module _ {M : Type 1} (𝓤 : URA M) (H : Heap 𝓤) (A : Atoms 𝓤) (W : Given
         let A₃ = subst (Is Arr (column lowerOf ys (i .0))) (array-tells u32 (uint-vals w32) (uint-tells w32) 512 (column lowerOf ys (i .0)) va ra) ra in
         let A₄ = subst (Is Arr (column upperOf ys (i .0))) (array-tells u32 (uint-vals w32) (uint-tells w32) 512 (column upperOf ys (i .0)) vb rb) rb in
         let A₅ = subst (Is Arr (column lengthOf ys (i .0))) (array-tells u32 (uint-vals w32) (uint-tells w32) 512 (column lengthOf ys (i .0)) vl rl) rl in
-        let is = columns-are (taken ys (i .0)) A₃ A₄ A₅ in
+        let is = columns-are (columnsOf ys (i .0)) A₃ A₄ A₅ in
         assigns ! (of-opd ! (load ! (from ! (stop !)) (look ! 2 refl))) (from ! (stop !)) (init ! 12 refl (typed (column lowerOf ys (i .0)) _ A₃)) $
         assigns ! (of-opd ! (load ! (from ! (stop !)) (look ! 1 refl))) (from ! (stop !)) (init ! 10 refl (typed (column upperOf ys (i .0)) _ A₄)) $
         assigns ! (of-opd ! (load ! (from ! (stop !)) (look ! 0 refl))) (from ! (stop !)) (init ! 8 refl (typed (column lengthOf ys (i .0)) _ A₅)) $
         assigns ! (agg ! (and-then ! (load ! (from ! (stop !)) (look ! 12 refl)) (and-then ! (load ! (from ! (stop !)) (look ! 10 refl)) (and-then ! (load ! (from ! (stop !)) (look ! 8 refl)) (no-more !)))))
-        (from ! (stop !)) (init ! 45 refl (LL.lawful T.the-type T′.the-laws 𝓤 H A W .typed (taken ys (i .0)) _ is .0)) $
+        (from ! (stop !)) (init ! 45 refl (LL.lawful T.the-type T′.the-laws 𝓤 H A W .typed (columnsOf ys (i .0)) _ is .0)) $
         returns ! (look ! 45 refl) $ forget ! 0 refl $ forget ! 1 refl $ forget ! 2 refl $ forget ! 8 refl $ forget ! 10 refl $ forget ! 12 refl $ forget ! 32 refl $ forget ! 36 refl $ forget ! 41 refl $ forget ! 43 refl $ forget ! 45 refl $
         move ! (45 ∷ 46 ∷ []) $ free1 ! $ move ! (43 ∷ 44 ∷ []) $ free1 ! $ move ! (41 ∷ 42 ∷ []) $ free1 ! $ move ! (2 ∷ 40 ∷ []) $ free1 ! $ move ! (1 ∷ 38 ∷ []) $ free1 ! $ move ! (0 ∷ 36 ∷ []) $ free1 ! $
         move ! (33 ∷ 34 ∷ []) $ free1 ! $ move ! (31 ∷ 32 ∷ []) $ free1 ! $ move ! (29 ∷ 30 ∷ []) $ free1 ! $ move ! (27 ∷ 28 ∷ []) $ free1 ! $ move ! (25 ∷ 26 ∷ []) $ free1 ! $ move ! (23 ∷ 24 ∷ []) $ free1 ! $
         move ! (21 ∷ 22 ∷ []) $ free1 ! $ move ! (19 ∷ 20 ∷ []) $ free1 ! $ move ! (17 ∷ 18 ∷ []) $ free1 ! $ move ! (15 ∷ 16 ∷ []) $ free1 ! $ move ! (13 ∷ 14 ∷ []) $ free1 ! $ move ! (11 ∷ 12 ∷ []) $ free1 ! $
         move ! (9 ∷ 10 ∷ []) $ free1 ! $ move ! (7 ∷ 8 ∷ []) $ free1 ! $ move ! (5 ∷ 6 ∷ []) $ free1 ! $ free0 ! $
         move ! (2 ∷ 0 ∷ []) $ fjoin ! $ move ! (2 ∷ 0 ∷ []) $ fjoin ! $ keep ! (1 ∷ 0 ∷ 2 ∷ []) $
-        by ! (exits (taken ys (i .0)) _ (rw (le-antisymm (i .1) over)) is)))))))
+        by ! (exits (columnsOf ys (i .0)) _ (rw (le-antisymm (i .1) over)) is)))))))
       where
         few′ : i .0 ≤ 512
         few′ = omega (arith, i .1, few)

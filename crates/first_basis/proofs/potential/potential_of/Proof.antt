@@ -1,3 +1,4 @@
+-- `potential_of` meets its contract. The invariant: u is by as much off the offset as the potential of y is off that of x; the measure is the depth of x. Assumes nothing.
 use mathlib.Core.Logic.{⊎-elim}
 use native.Mathlib.Omega.{arith}
 use Rattle.arithmetic.specs.Table.{at}
@@ -16,22 +17,34 @@ loop-holds : tie.Need-loop-holds Inv-loop μ-loop
 loop-holds c = from-none (c .pre .0) (c .pre .1)
 
 add-u : tie.Need-add-u Inv-loop μ-loop
-add-u c = omega (arith, from-fits (c .before .before .before .before .before .before .pre .0) (c .before .before .before .before .before .loop .inv) (c .before .before .before .before .loop-test .taken))
+add-u c =
+    let i : tie.In-loop Inv-loop μ-loop = search in
+    omega (arith, from-fits (i .before .before .pre .0) (i .before .loop .inv) (i .loop-test .taken))
 
 sub-u : tie.Need-sub-u Inv-loop μ-loop
-sub-u c = from-enough (c .before .before .before .before .before .before .pre .0) (c .before .before .before .before .before .loop .inv) (c .before .before .before .before .loop-test .taken) (c .before .if1 .left)
+sub-u c =
+    let i : tie.In-loop Inv-loop μ-loop = search in
+    from-enough (i .before .before .pre .0) (i .before .loop .inv) (i .loop-test .taken) (c .before .if1 .left)
 
 cast-x : tie.Need-cast-x Inv-loop μ-loop
-cast-x c = omega (arith, c .shared-slice-known5 .given (c .before .before .before .before .before .loop .x))
+cast-x c =
+    let l : tie.At-loop Inv-loop μ-loop = search in
+    omega (arith, l .before .pre .0 .tree .into _ (l .loop .inv .low))
 
 loop-less : tie.Need-loop-less Inv-loop μ-loop
-loop-less c = from-less (c .before .before .before .before .before .before .pre .0) (c .before .before .before .before .before .loop .inv) (c .before .before .before .before .loop-test .taken)
+loop-less c =
+    let i : tie.In-loop Inv-loop μ-loop = search in
+    from-less (i .before .before .pre .0) (i .before .loop .inv) (i .loop-test .taken)
 
 loop-again : tie.Need-loop-again Inv-loop μ-loop
 loop-again c =
+    let i : tie.In-loop Inv-loop μ-loop = search in
+    let can = i .before .before .pre .0 in
+    let inv = i .before .loop .inv in
+    let go = i .loop-test .taken in
     ⊎-elim
-    (λ j. rw (j .2) (from-more (c .before .before .before .before .before .before .pre .0) (c .before .before .before .before .before .loop .inv) (c .before .before .before .before .loop-test .taken) (j .0 .taken)))
-    (λ j. rw (j .2) (from-fewer (c .before .before .before .before .before .before .pre .0) (c .before .before .before .before .before .loop .inv) (c .before .before .before .before .loop-test .taken) (j .0 .left)))
+    (λ j. rw (j .2) (from-more can inv go (j .0 .taken)))
+    (λ j. rw (j .2) (from-fewer can inv go (j .0 .left)))
     (c .before .if1 .came)
 
 returns : tie.Need-returns Inv-loop μ-loop

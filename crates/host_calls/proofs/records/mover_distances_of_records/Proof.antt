@@ -37,7 +37,7 @@ use denote.Triple.Walked.{says, Stays, stay-none-slice, stay-none, gave-slice, w
 use denote.Exit.{yes as kept}
 use Rattle.distances.specs.declared.records.EdgeRecord.{EdgeRecord}
 use Rattle.distances.specs.Distances.{distancesRefusal, distancesTable}
-use Rattle.distances.specs.Records.{graphOf}
+use Rattle.distances.specs.Records.{graphOfRecords}
 use Rattle.distances.proofs.records.EdgeRecord as E
 use Rattle.distances.proofs.records.distances_of_records as core
 use Rattle.distances.proofs.distances_of_records.Symbol as core-def
@@ -53,7 +53,7 @@ stayed = (stay-none (λ _. usize) kept, (stay-none-slice (0 ∷ []) tt (plain (�
 
 -- what both calls say of their results
 abbrev Says : ℕ → List EdgeRecord → List ℕ → ℕ → List ℕ → Type 0
-Says n es out r out' = (r ≡ distancesRefusal (graphOf n es) out) × (out' ≡ distancesTable (graphOf n es) out)
+Says n es out r out' = (r ≡ distancesRefusal (graphOfRecords n es) out) × (out' ≡ distancesTable (graphOfRecords n es) out)
 
 module _ {M : Type 1} (𝓤 : URA M) (H : Heap 𝓤) (A : Atoms 𝓤) (mem : Memory → SProp 𝓤) (run : Routine → Fun 𝓤) where
   -- the contract that the proof cites

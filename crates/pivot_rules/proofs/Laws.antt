@@ -1,4 +1,0 @@
-pub mod Candidates
-pub mod Entering
-pub mod Join
-pub mod Leaving

@@ -1,3 +1,0 @@
-pub mod Entering
-pub mod Join
-pub mod Leaving

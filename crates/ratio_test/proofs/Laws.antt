@@ -1,0 +1,4 @@
+pub mod CommonAncestor
+pub mod Leaving
+pub mod Candidates
+pub mod Exchange

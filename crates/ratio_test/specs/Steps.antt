@@ -1,0 +1,2 @@
+pub mod CommonAncestor
+pub mod Leaving

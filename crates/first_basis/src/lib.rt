@@ -15,8 +15,6 @@ ghost use lib.ListN.{length};
 
 mod potential;
 
-use tree_walks::sums;
-
 // The length of the edge above each vertex.
 fn lengths_above(n: usize, lengths: &[u32], edge: &[u32; 64], out: &mut [u32; 64])
     requires { ⌜ CanMeasure n (now lengths) (now edge) (now out) ⌝ }
@@ -73,7 +71,7 @@ fn tables_below(
     let mut depth = [0u32; 64];
     perturb(n, 0, 1, mu, &mut sent);
     perturb(n, n as u64 - 1, 0, nu, &mut taken);
-    sums::subtree_tables(
+    subtree_sums::subtree_tables(
         n,
         0,
         parents,

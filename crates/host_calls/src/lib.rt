@@ -2,7 +2,7 @@
 ghost use mathlib.Core.Path.{_≡_};
 ghost use Rattle.graph.specs.Graph.{graph};
 ghost use Rattle.distances.specs.Distances.{distancesRefusal, distancesTable};
-ghost use Rattle.spanning_tree.specs.Given.{given};
+ghost use Rattle.given_tree.specs.Given.{given};
 ghost use Rattle.tree_evaluation.specs.Evaluate.{Evaluated};
 ghost use Rattle.optimal_transport.specs.Solve.{Solved};
 ghost use Rattle.optimality_test.specs.OptimalityTest.{OptimalityTested};

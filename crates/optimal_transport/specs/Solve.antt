@@ -7,7 +7,7 @@ use lib.IntN.{ℤ}
 use Rattle.arithmetic.specs.Refusal.{refusal}
 use Rattle.arithmetic.specs.Table.{at, tab, matrix, result, written}
 use Rattle.graph.specs.Graph.{Graph}
-use Rattle.spanning_tree.specs.Given.{answersOk}
+use Rattle.given_tree.specs.Given.{answersOk}
 use Rattle.plan_rule.specs.Plan.{plan, moves}
 use Rattle.duality.specs.Best.{Best}
 use Rattle.duality.specs.BestCost.{bestCost}

@@ -10,7 +10,6 @@ ghost use Rattle.arithmetic.specs.Steps.Table.{EachBelow};
 ghost use Rattle.optimal_transport.specs.Solve.{Solved};
 use network_simplex::search::best_tree;
 use numbers::difference;
-use spanning_tree::given;
 use spanning_tree::tree::Tree;
 use tree_evaluation::Evaluation;
 use tree_evaluation::evaluate_tree;
@@ -62,7 +61,7 @@ pub fn solve(
     let mut above = [0u32; 64];
     let mut u = [0u32; 64];
     let mut imbalance = [0i32; 64];
-    let room = given::has_room(n, parents.len(), potential.len(), plan.len());
+    let room = given_tree::has_room(n, parents.len(), potential.len(), plan.len());
     let refusal = transport_problem::check(n, a, b, lengths, mu, nu, room, &mut first, &mut edge);
     if refusal != 0 {
         return Evaluation {

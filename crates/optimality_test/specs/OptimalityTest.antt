@@ -6,7 +6,7 @@ use lib.Dec.{eqb}
 use Rattle.arithmetic.specs.Sum.{pick}
 use Rattle.arithmetic.specs.Table.{at, result}
 use Rattle.graph.specs.Graph.{Graph}
-use Rattle.spanning_tree.specs.Given.{Given, givenRefusal}
+use Rattle.given_tree.specs.Given.{Given, givenRefusal}
 use Rattle.tree_figures.specs.Figures.{treeCost}
 use Rattle.duality.specs.BestCost.{bestCost}
 

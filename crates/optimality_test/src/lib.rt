@@ -5,12 +5,11 @@ ghost use Rattle.arithmetic.specs.Table.{at};
 ghost use Rattle.graph.specs.Graph.{graph};
 ghost use Rattle.graph.specs.Steps.EdgeTree.{EdgeTree};
 ghost use Rattle.transport_problem.specs.Steps.TransportProblem.{TransportProblem};
-ghost use Rattle.spanning_tree.specs.Given.{given};
+ghost use Rattle.given_tree.specs.Given.{given};
 ghost use Rattle.duality.specs.BestCost.{bestCost};
 ghost use Rattle.optimality_test.specs.OptimalityTest.{OptimalityTested};
 ghost use Rattle.optimality_test.specs.Steps.TreeCosts.{CanCost, CostOf};
 use network_simplex::search::best_tree;
-use spanning_tree::given;
 use spanning_tree::tree::Tree;
 use tree_evaluation::evaluate_tree;
 
@@ -69,7 +68,7 @@ pub fn is_optimal(
     let mut above = [0u32; 64];
     let mut first = [0u32; 64];
     let mut edge = [0u32; 64];
-    let k = given::given_refusal(
+    let k = given_tree::given_refusal(
         n,
         a,
         b,

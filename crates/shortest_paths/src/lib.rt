@@ -1,9 +1,7 @@
 // Shortest paths from a vertex: Bellman and Ford's method, with Yen's sweeps up and down in turn. One search from vertex 0 gives check 5, the distances from it and
 // the tree that the search for a best tree starts from.
 ghost use Rattle.graph.specs.Graph.{graph};
-ghost use Rattle.shortest_paths.specs.Steps.ShortestPathTree.{CanFindPaths, Searched};
-
-mod labels;
+ghost use Rattle.path_labels.specs.Steps.ShortestPathTree.{CanFindPaths, Searched};
 
 // The tree of shortest paths from `start`; says whether every vertex can be reached.
 pub fn shortest_path_tree(
@@ -20,8 +18,8 @@ pub fn shortest_path_tree(
     ensures { λ r. ⌜ Searched (graph n (now (a .entry)) (now (b .entry)) (now (lengths .entry))) start r
         (now (parents .exit)) (now (edge .exit)) (now (labels .exit)) ⌝ }
 {
-    labels::initialize(start, parents, labels);
-    labels::sweep_up(a, b, lengths, parents, edge, labels);
-    while labels::round(a, b, lengths, parents, edge, labels) {}
-    labels::all_reached(n, labels)
+    path_labels::initialize(start, parents, labels);
+    path_labels::sweep_up(a, b, lengths, parents, edge, labels);
+    while path_labels::round(a, b, lengths, parents, edge, labels) {}
+    path_labels::all_reached(n, labels)
 }

@@ -1,4 +1,2 @@
 pub mod Tree
 pub mod TreeValue
-pub mod Given
-pub mod Steps

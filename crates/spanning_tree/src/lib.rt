@@ -1,3 +1,2 @@
-// Spanning trees of a graph: the tree by value, and the checks of a given one.
-pub mod given;
+// Spanning trees of a graph, by value.
 pub mod tree;

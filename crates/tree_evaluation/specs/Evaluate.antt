@@ -6,7 +6,7 @@ use lib.ListN.{length}
 use lib.IntN.{ℤ}
 use Rattle.arithmetic.specs.Table.{at, tab, matrix, result, written}
 use Rattle.graph.specs.Graph.{Graph}
-use Rattle.spanning_tree.specs.Given.{Given, answersOk, givenRefusal}
+use Rattle.given_tree.specs.Given.{Given, answersOk, givenRefusal}
 use Rattle.plan_rule.specs.Plan.{plan, moves}
 use Rattle.tree_figures.specs.Figures.{imbalance, potential, treeCost}
 

@@ -3,14 +3,12 @@ ghost use mathlib.Core.List.{List};
 ghost use Prim.Native.Nat.{ℕ};
 ghost use Rattle.arithmetic.specs.Table.{at};
 ghost use Rattle.graph.specs.Graph.{graph};
-ghost use Rattle.spanning_tree.specs.Given.{given};
+ghost use Rattle.given_tree.specs.Given.{given};
 ghost use Rattle.tree_evaluation.specs.Evaluate.{Evaluated};
 ghost use Rattle.tree_figures.specs.Steps.Tables.{LengthsTo};
 ghost use Rattle.tree_evaluation.specs.Steps.EvaluateTree.{Evaluable, TreeEvaluated};
-use spanning_tree::given;
 use spanning_tree::tree::Tree;
 use transport_plan::tree_plan;
-use tree_walks::sums;
 
 // 0 or a refusal number, with the cost of the tree and the moves of its plan
 pub struct Evaluation {
@@ -46,7 +44,7 @@ pub fn evaluate_tree(
     let mut masks = [0u64; 64];
     let mut supply = [0u64; 64];
     let mut demand = [0u64; 64];
-    sums::subtree_tables(
+    subtree_sums::subtree_tables(
         n,
         root,
         &parents,
@@ -88,8 +86,8 @@ pub fn evaluate(
     let mut above = [0u32; 64];
     let mut first = [0u32; 64];
     let mut edge = [0u32; 64];
-    let room = given::has_room(n, imbalance.len(), potential.len(), plan.len());
-    let k = given::given_refusal(
+    let room = given_tree::has_room(n, imbalance.len(), potential.len(), plan.len());
+    let k = given_tree::given_refusal(
         n,
         a,
         b,

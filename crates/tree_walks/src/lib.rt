@@ -1,3 +1,2 @@
-// Walks up the parents of a rooted tree, and the sums over its subtrees.
-pub mod sums;
+// Walks up the parents of a rooted tree.
 pub mod walk;

@@ -2,7 +2,7 @@
 use mathlib.Core.List.{List, [], _∷_}
 use lib.IntN.{pos, negsuc}
 use Rattle.graph.specs.Graph.{graph}
-use Rattle.spanning_tree.specs.Given.{given}
+use Rattle.given_tree.specs.Given.{given}
 use Rattle.worked_cases.specs.Figures.{Case, BestFigures, Bytes, silent, said}
 
 -- A: a line; the plan is that of the listing

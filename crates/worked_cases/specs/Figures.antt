@@ -12,7 +12,7 @@ use Rattle.arithmetic.specs.Refusal.{refusal}
 use Rattle.arithmetic.specs.Table.{at, tab, matrix}
 use Rattle.graph.specs.Graph.{Graph, edges}
 use Rattle.tree_checks.specs.Checks.{treeChecks}
-use Rattle.spanning_tree.specs.Given.{Given, givenRefusal}
+use Rattle.given_tree.specs.Given.{Given, givenRefusal}
 use Rattle.plan_rule.specs.Plan.{moves}
 use Rattle.tree_figures.specs.Figures.{difference, imbalance, potential, treeCost}
 use Rattle.tree_evaluation.specs.Evaluate.{treePlan}

@@ -8,7 +8,7 @@ use Rattle.graph.specs.Graph.{Graph}
 use Rattle.graph.specs.Checks.{connected}
 use Rattle.graph.specs.Steps.Accepted.{WellFormed}
 use Rattle.graph.proofs.Laws.Connected.{connected-exact}
-use Rattle.shortest_paths.specs.Steps.ShortestPathTree.{Searched}
+use Rattle.path_labels.specs.Steps.ShortestPathTree.{Searched}
 
 pub connected-is : (g : Graph) (r : Bool) (p s labels : List ℕ) → WellFormed g → Searched g 0 r p s labels → r ≡ connected g
 connected-is g true p s labels f w = sym (connected-exact g (f .edges) (f .lengths) .1 (w .reached refl))

@@ -3,7 +3,7 @@ use borrow.Author.Tests.{not-false}
 use Rattle.arithmetic.proofs.Laws.Refusal.{refusals, test-held}
 use Rattle.graph.specs.Checks.{edgeChecks}
 use Rattle.graph.proofs.Laws.Accepted.{vertices-in, lists-fit-in}
-use Rattle.shortest_paths.proofs.Laws.ShortestPath.{edge-tree}
+use Rattle.path_labels.proofs.Laws.ShortestPath.{edge-tree}
 use Rattle.graph_checks.proofs.Laws.Connecting.{connected-is}
 use Rattle.graph_checks.proofs.edges_refusal.Statement.{statement}
 use Rattle.graph_checks.proofs.edges_refusal.Tie as tie

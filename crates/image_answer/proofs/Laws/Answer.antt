@@ -17,7 +17,7 @@ use Rattle.arithmetic.proofs.Laws.Bools.{case, clash}
 use Rattle.arithmetic.proofs.Laws.Table.{length-tab, length-rows, tab-at, tab-ext, rows-ext, front-at, written-refused}
 use Rattle.graph.specs.Graph.{graph}
 use Rattle.graph.proofs.Laws.Accepted.{vertices-in}
-use Rattle.spanning_tree.specs.Given.{given, answersOk}
+use Rattle.given_tree.specs.Given.{given, answersOk}
 use Rattle.plan_rule.specs.Plan.{moves}
 use Rattle.plan_rule.proofs.Laws.PlanMoves.{moves-ext}
 use Rattle.tree_evaluation.specs.Evaluate.{Evaluated}

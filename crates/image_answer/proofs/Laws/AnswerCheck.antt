@@ -16,7 +16,7 @@ use Rattle.arithmetic.proofs.Laws.Refusal.{stops, past-all, same-after}
 use Rattle.graph.specs.Checks.{verticesOk, sizeChecks, edgeChecks, graphChecks}
 use Rattle.graph.proofs.Laws.Accepted.{vertices-in, sizes-numbered}
 use Rattle.measures.specs.Checks.{measureChecks}
-use Rattle.spanning_tree.specs.Given.{Given, given, parentsLong, answersOk}
+use Rattle.given_tree.specs.Given.{Given, given, parentsLong, answersOk}
 use Rattle.tree_evaluation.specs.Evaluate.{evaluateRefusal}
 use Rattle.duality.proofs.Laws.Agree.{Same, measures-same, tree-same}
 use Rattle.transport_problem.specs.Checks.{measuresLong}

@@ -8,8 +8,8 @@ use lib.ListN.{length, drop}
 use Rattle.arithmetic.specs.Table.{at, tab}
 use Rattle.arithmetic.proofs.Laws.Table.{length-tab, length-rows, result-refused, written-refused}
 use Rattle.graph.specs.Graph.{Graph, graph}
-use Rattle.spanning_tree.specs.Given.{answersOk}
-use Rattle.spanning_tree.proofs.Laws.Given.{room-in}
+use Rattle.given_tree.specs.Given.{answersOk}
+use Rattle.given_tree.proofs.Laws.Given.{room-in}
 use Rattle.tree_figures.specs.Steps.Tables.{LengthsTo}
 use Rattle.tree_evaluation.specs.Steps.EvaluateTree.{TreeEvaluated}
 use Rattle.network_simplex.specs.Steps.Search.{BestTree}

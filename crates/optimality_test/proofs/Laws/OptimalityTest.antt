@@ -15,9 +15,9 @@ use Rattle.graph.specs.Graph.{Graph}
 use Rattle.graph.specs.Steps.Accepted.{Accepted}
 use Rattle.graph.proofs.Laws.Accepted.{vertices-in}
 use Rattle.spanning_tree.specs.TreeValue.{parentsHeld}
-use Rattle.spanning_tree.specs.Given.{Given}
-use Rattle.spanning_tree.specs.Steps.Given.{GivenChecked}
-use Rattle.spanning_tree.proofs.Laws.Given.{given-accepted}
+use Rattle.given_tree.specs.Given.{Given}
+use Rattle.given_tree.specs.Steps.Given.{GivenChecked}
+use Rattle.given_tree.proofs.Laws.Given.{given-accepted}
 use Rattle.tree_evaluation.proofs.Laws.GivenTree.{given-evaluable, given-cost}
 use Rattle.duality.specs.BestCost.{bestCost}
 use Rattle.network_simplex.specs.Steps.Search.{BestTree}

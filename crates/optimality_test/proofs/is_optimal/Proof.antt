@@ -1,6 +1,6 @@
 use borrow.Author.Needs.{needs}
 use native.Mathlib.Omega.{arith}
-use Rattle.spanning_tree.proofs.Laws.Given.{given-accepted}
+use Rattle.given_tree.proofs.Laws.Given.{given-accepted}
 use Rattle.optimality_test.proofs.Laws.OptimalityTest.{test-refused, given-can, tested-best, tested-other}
 use Rattle.optimality_test.proofs.is_optimal.Statement.{statement}
 use Rattle.optimality_test.proofs.is_optimal.Tie as tie

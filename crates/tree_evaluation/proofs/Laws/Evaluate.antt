@@ -12,9 +12,9 @@ use Rattle.rooted_tree.specs.Steps.Rooted.{Rooted}
 use Rattle.rooted_tree.specs.Steps.Subtotal.{subtotal}
 use Rattle.graph.specs.Graph.{Graph, graph}
 use Rattle.spanning_tree.specs.TreeValue.{parentsHeld}
-use Rattle.spanning_tree.specs.Given.{Given, answersOk}
-use Rattle.spanning_tree.specs.Steps.Given.{GivenChecked}
-use Rattle.spanning_tree.proofs.Laws.Given.{GivenAccepted, given-passed, given-accepted, room-in}
+use Rattle.given_tree.specs.Given.{Given, answersOk}
+use Rattle.given_tree.specs.Steps.Given.{GivenChecked}
+use Rattle.given_tree.proofs.Laws.Given.{GivenAccepted, given-passed, given-accepted, room-in}
 use Rattle.plan_rule.specs.Plan.{plan, moves}
 use Rattle.tree_figures.specs.Figures.{imbalance, potential}
 use Rattle.tree_figures.specs.Steps.Tables.{Short, LengthsTo, Moderate, costFrom, potentialFrom}

@@ -14,9 +14,9 @@ use Rattle.tree_checks.specs.Steps.ParentEdges.{Lengths}
 use Rattle.tree_checks.proofs.Laws.TreeTests.{spanning-rooted}
 use Rattle.transport_problem.specs.Steps.TransportProblem.{Painting}
 use Rattle.spanning_tree.specs.TreeValue.{parentsHeld}
-use Rattle.spanning_tree.specs.Given.{Given}
+use Rattle.given_tree.specs.Given.{Given}
 use Rattle.spanning_tree.proofs.Laws.TreeValue.{held-same}
-use Rattle.spanning_tree.proofs.Laws.Given.{GivenAccepted}
+use Rattle.given_tree.proofs.Laws.Given.{GivenAccepted}
 use Rattle.transport_plan.specs.Steps.PlanSteps.{Measures}
 use Rattle.tree_figures.specs.Figures.{treeCost}
 use Rattle.tree_figures.specs.Steps.Tables.{Short, LengthsTo}

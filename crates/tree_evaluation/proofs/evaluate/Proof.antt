@@ -1,7 +1,7 @@
 use mathlib.Core.Path.{refl}
 use native.Mathlib.Omega.{arith}
 use borrow.Author.Needs.{needs}
-use Rattle.spanning_tree.proofs.Laws.Given.{given-answers}
+use Rattle.given_tree.proofs.Laws.Given.{given-answers}
 use Rattle.tree_evaluation.proofs.Laws.Evaluate.{evaluate-refused, evaluable, potential-asked, evaluate-done}
 use Rattle.tree_evaluation.proofs.evaluate.Statement.{statement}
 use Rattle.tree_evaluation.proofs.evaluate.Tie as tie

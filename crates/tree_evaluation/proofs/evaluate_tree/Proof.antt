@@ -4,7 +4,7 @@ use native.Mathlib.Omega.{arith}
 use lib.ListN.{length}
 use Rattle.arithmetic.specs.Table.{at}
 use Rattle.graph.specs.Graph.{graph}
-use Rattle.tree_walks.proofs.Laws.Sums.{subtotals-within}
+use Rattle.subtree_sums.proofs.Laws.Sums.{subtotals-within}
 use Rattle.tree_evaluation.proofs.Laws.Evaluate.{tree-evaluated}
 use borrow.Author.Needs.{needs}
 use Rattle.tree_evaluation.proofs.evaluate_tree.Statement.{statement}

@@ -16,8 +16,8 @@ use Rattle.graph.specs.Graph.{Graph, edges}
 use Rattle.graph.specs.Steps.Accepted.{Accepted}
 use Rattle.tree_checks.specs.Checks.{treeChecks}
 use Rattle.tree_checks.proofs.Laws.TreeTests.{accepted-spanning}
-use Rattle.spanning_tree.specs.Given.{givenRefusal}
-use Rattle.spanning_tree.proofs.Laws.Given.{given-passed}
+use Rattle.given_tree.specs.Given.{givenRefusal}
+use Rattle.given_tree.proofs.Laws.Given.{given-passed}
 use Rattle.tree_figures.specs.Figures.{treeCost}
 use Rattle.duality.specs.BestCost.{bestCost}
 use Rattle.duality.proofs.Laws.Best.{IntegerCertificate, certified-best}

@@ -16,7 +16,7 @@ use Rattle.graph.specs.Graph.{joined, edgeLength}
 use Rattle.graph.specs.Checks.{verticesOk, listsFit, edgeFits, lengthFits, reached, connected, sizeChecks, edgeChecks}
 use Rattle.tree_checks.specs.Checks.{parentsOk, treeEdgesOk, chainsOk, treeChecks}
 use Rattle.measures.specs.Checks.{totalOk, totalsEqual, measureChecks}
-use Rattle.spanning_tree.specs.Given.{parentsLong, answersOk}
+use Rattle.given_tree.specs.Given.{parentsLong, answersOk}
 use Rattle.plan_rule.specs.Plan.{moved, matched, layer, layers, plan, moves}
 use Rattle.tree_figures.specs.Figures.{imbalance, potential, treeCost}
 use Rattle.duality.specs.BestCost.{least, parentTables, costs, bestCost}

@@ -1,6 +1,7 @@
 /* mover.h - the weight mover: optimal transport on a weighted graph.
  *
- * A graph (patch) has n vertices, 1 to 64, and m edges, 0 to 512, each with a length from 1 to 65,535.
+ * A graph (patch) has n vertices, 1 to 64, and m edges, 0 to 512, each with a length from 0 to 65,535: 0
+ * joins welded vertices.
  * Two measures (paintings) of equal total, at most 16,777,216, put an amount on each vertex: mu before,
  * nu after. A plan says how much goes from which vertex to which; its cost is the sum of amount times
  * distance. The library finds a cheapest plan, or evaluates the plan of a spanning tree that is given.
@@ -67,7 +68,7 @@ enum {
                                         mu, nu or given parents are not n long, or an answer table or the
                                         record buffer is too short */
   MOVER_REFUSED_EDGE_ORDER = 3,      /* an edge has b >= n or a >= b, or is not after its forerunner */
-  MOVER_REFUSED_EDGE_LENGTH = 4,     /* a length is 0 or above 65,535 */
+  MOVER_REFUSED_EDGE_LENGTH = 4,     /* a length is above 65,535: no image gives this */
   MOVER_REFUSED_NOT_CONNECTED = 5,   /* some vertex cannot be reached from vertex 0 */
   MOVER_REFUSED_TOTAL_TOO_LARGE = 6, /* a total is above 16,777,216 */
   MOVER_REFUSED_TOTALS_DIFFER = 7,   /* the totals of mu and nu differ */
@@ -88,7 +89,7 @@ static inline const char *mover_refusal_text(uint32_t number) {
       "the number of vertices is 0 or above 64",
       "there are more than 512 edges, or a table has the wrong length",
       "an edge has ends that are no rising pair of vertices, or is out of order",
-      "an edge has length 0 or a length above 65535",
+      "an edge has a length above 65535",
       "some vertex cannot be reached from vertex 0",
       "a total is above 16777216",
       "the two totals differ",
@@ -202,7 +203,7 @@ uint64_t mover_tree_subtree(mover_tree tree, size_t v); /* bit y for each vertex
  * An image with a tree is evaluated, one without a tree gets the best answer. Returns MOVER_OK and fills
  * the first MOVER_RECORD_SIZE(n) bytes of `record`, or returns a number and leaves `record` as it was.
  * Checks run in the order 11, 12, 13 and then 1 to 10; without a tree they stop after 7. 2 is "m above 512
- * or the record buffer too short", and an image can hold no length above 65,535. */
+ * or the record buffer too short"; 4 is never given, since an image has two bytes for a length. */
 uint32_t mover_run(const uint8_t *image, size_t image_len, uint8_t *record, size_t record_len);
 
 /* The image.

@@ -173,9 +173,11 @@ def random_edges(draw: random.Random, n: int) -> List[Edge]:
     while len(pairs) < wanted:
         x = draw.randrange(1, n)
         pairs.add((draw.randrange(x), x))
-    longest = draw.choice([1, 3, 100, 65_535])
+    limits = draw.choice(
+        [(1, 1), (1, 3), (1, 100), (1, 65_535), (0, 1), (0, 2), (0, 65_535), (0, 0)]
+    )
     number = draw.sample(range(n), n)
-    edges = [(number[a], number[b], draw.randint(1, longest)) for a, b in sorted(pairs)]
+    edges = [(number[a], number[b], draw.randint(*limits)) for a, b in sorted(pairs)]
     return draw.sample(edges, len(edges))
 
 

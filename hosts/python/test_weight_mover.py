@@ -125,12 +125,16 @@ MARKED = {
         0, [0, 0, 1, 2, 3, 4], [0, -1, -2, 2, 4, 6], [0, -1, -2, -1, 0, 1], 15,
         G_PLAN, 15,
     ),
+    "seam": Case(
+        Problem([(0, 1, 0), (0, 2, 0), (1, 2, 0), (2, 3, 5)], [3, 0, 0, 0], [0, 1, 0, 2]),
+        0, [0, 0, 1, 2], [0, -3, -2, -2], [0, 0, 0, -5], 10, [(0, 1, 1), (0, 3, 2)], 10,
+    ),
 }
 # fmt: on
 
 
 class MarkedCases(unittest.TestCase):
-    """Cases A to H through each call."""
+    """Cases A to H and a seam through each call."""
 
     def test_evaluate(self) -> None:
         for name, case in MARKED.items():
@@ -190,6 +194,7 @@ class MarkedCases(unittest.TestCase):
             "E": [[0]],
             "F": [[0, 65_535], [65_535, 0]],
             "G": [[abs(i - j) for j in range(6)] for i in range(6)],
+            "seam": [[0, 0, 0, 5], [0, 0, 0, 5], [0, 0, 0, 5], [5, 5, 5, 0]],
         }
         for name, table in wanted.items():
             n, edges = MARKED[name].problem.n, MARKED[name].problem.edges
@@ -274,8 +279,15 @@ class Refusals(unittest.TestCase):
         self.assertEqual(wm.read(image).edges, [(1, 0, 1)])
 
     def test_4_lengths(self) -> None:
-        self.by_all(4, [(0, 1, 0)], [1, 0], [0, 1])
-        self.refused(4, wm.solve, [(0, 1, 65_536)], [1, 0], [0, 1])
+        long = [(0, 1, 65_536)], [1, 0], [0, 1]
+        self.refused(4, wm.solve, *long)
+        self.refused(4, wm.evaluate, *long, 0, [0, 0])
+        self.refused(4, wm.is_optimal, *long, 0, [0, 0])
+        self.refused(4, wm.distances_of_records, 2, long[0])
+        with self.assertRaises(OverflowError):  # an image has two bytes for a length
+            wm.write(*long)
+        self.assertEqual(wm.solve([(0, 1, 65_535)], [1, 0], [0, 1]).cost, 65_535)
+        self.assertEqual(wm.solve([(0, 1, 0)], [1, 0], [0, 1]).cost, 0)
         self.refused(4, wm.distances, 2, [(0, 1, 2**32 - 1)])
 
     def test_5_connected(self) -> None:
@@ -339,7 +351,7 @@ class Refusals(unittest.TestCase):
         self.refused(1, wm.evaluate, [(0, 0, 0)], [], [3], 9, [])
         self.refused(2, wm.evaluate, [(0, 0, 0)], [1], [3, 4], 9, [5])
         self.refused(3, wm.evaluate, [(0, 0, 0)], [1], [3], 9, [5])
-        self.refused(4, wm.evaluate, [(0, 1, 0)], [FULL, 1, 0], 3 * [0], 9, 3 * [5])
+        self.refused(4, wm.evaluate, [(0, 1, 65_536)], [FULL, 1, 0], 3 * [0], 9, 3 * [5])
         self.refused(5, wm.evaluate, [(0, 1, 1)], [FULL, 1, 0], 3 * [0], 9, 3 * [5])
         self.refused(6, wm.evaluate, PATH, [FULL, 1, 0], 3 * [0], 9, 3 * [5])
         self.refused(7, wm.evaluate, PATH, [FULL, 0, 0], 3 * [0], 9, 3 * [5])

@@ -1,8 +1,8 @@
 """The weight mover: the cheapest way to carry one painting of a patch into another.
 
 A patch has n vertices, 0 to n - 1, with n from 1 to 64, and at most 512 edges. An edge
-is (a, b, length): two vertices, in either order, and a length from 1 to 65,535 in
-hundredths of a millimetre. Edges come in any order, no pair of vertices twice.
+is (a, b, length): two vertices, in either order, and a length from 0 to 65,535 in
+hundredths of a millimetre; 0 joins welded vertices. Edges come in any order, no pair of vertices twice.
 
 A painting is one whole amount, in grains, for each vertex. `mu` is the painting before,
 `nu` the one after. Both have the same total, at most 16,777,216 grains.
@@ -91,7 +91,7 @@ _TEXTS = (
     "the number of vertices is 0 or above 64",
     "there are more than 512 edges, or a table has the wrong length",
     "an edge has ends that are no rising pair of vertices, or is out of order",
-    "an edge has length 0 or a length above 65535",
+    "an edge has a length above 65535",
     "some vertex cannot be reached from vertex 0",
     "a total is above 16777216",
     "the two totals differ",

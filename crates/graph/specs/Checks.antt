@@ -32,9 +32,9 @@ edgeFits n a b e =
 abbrev pub edgesOk : Graph → Bool
 edgesOk g = all (edges g) (edgeFits (g .n) (g .lower) (g .upper))
 
--- 4: "some length 0 or above 65,535"
+-- 4: "some length ... above 65,535"; document 02, W-206: "number 4 is given from now on only above 65,535"
 unfoldable pub lengthFits : List ℕ → ℕ → Bool
-lengthFits lengths e = ltb 0 (at lengths e) && leb (at lengths e) 65535
+lengthFits lengths e = leb (at lengths e) 65535
 
 abbrev pub lengthsOk : Graph → Bool
 lengthsOk g = all (edges g) (lengthFits (g .lengths))

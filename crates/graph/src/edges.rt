@@ -55,15 +55,14 @@ pub fn edges_fit(n: usize, a: &[u32], b: &[u32]) -> bool
     fits
 }
 
-// Each of the first m lengths is from 1 to 65,535.
+// Each of the first m lengths is at most 65,535.
 pub fn lengths_fit(m: usize, lengths: &[u32]) -> bool
     requires { ⌜ m ≤ length (now lengths) ⌝ }
     ensures { λ r. ⌜ r ≡ all m (lengthFits (now (lengths .entry))) ⌝ }
 {
     let mut fits = true;
     for e in 0..m {
-        let s = lengths[e];
-        fits &= (0 < s) & (s <= 65535);
+        fits &= lengths[e] <= 65535;
     }
     fits
 }

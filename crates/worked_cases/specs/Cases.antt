@@ -144,6 +144,21 @@ h = record {
   judged = silent;
 }
 
+-- a welded seam (document 02, W-206): a ring of edges of length 0, and an edge that leads out of it
+abbrev pub seam : Case
+seam = record {
+  patch = graph 4 (0 ∷ 0 ∷ 1 ∷ 2 ∷ []) (1 ∷ 2 ∷ 2 ∷ 3 ∷ []) (0 ∷ 0 ∷ 0 ∷ 5 ∷ []);
+  lent = given (3 ∷ 0 ∷ 0 ∷ 0 ∷ []) (0 ∷ 1 ∷ 0 ∷ 2 ∷ []) 0 (0 ∷ 0 ∷ 1 ∷ 2 ∷ []);
+  refusal = 0;
+  imbalances = said (pos 0 ∷ negsuc 2 ∷ negsuc 1 ∷ negsuc 1 ∷ []);
+  potentials = said (pos 0 ∷ pos 0 ∷ pos 0 ∷ negsuc 4 ∷ []);
+  cost = said 10;
+  moved = said 2;
+  entries = said (0 ∷ 1 ∷ 0 ∷ 2 ∷ 0 ∷ 0 ∷ 0 ∷ 0 ∷ 0 ∷ 0 ∷ 0 ∷ 0 ∷ 0 ∷ 0 ∷ 0 ∷ 0 ∷ []);
+  best = said (record { parents = (0 ∷ 0 ∷ 1 ∷ 2 ∷ []); potentials = (pos 0 ∷ pos 0 ∷ pos 0 ∷ negsuc 4 ∷ []); cost = 10 });
+  judged = said 1;
+}
+
 -- 1: n = 0
 abbrev pub n-0 : Case
 n-0 = record {
@@ -189,10 +204,10 @@ edge-10 = record {
   judged = silent;
 }
 
--- 4: n = 2, (0, 1) length 0
-abbrev pub length-0 : Case
-length-0 = record {
-  patch = graph 2 (0 ∷ []) (1 ∷ []) (0 ∷ []);
+-- 4: n = 2, (0, 1) length 65,536 (document 02, W-206)
+abbrev pub length-65536 : Case
+length-65536 = record {
+  patch = graph 2 (0 ∷ []) (1 ∷ []) (65536 ∷ []);
   lent = given (1 ∷ 0 ∷ []) (0 ∷ 1 ∷ []) 0 (0 ∷ 0 ∷ []);
   refusal = 4;
   imbalances = silent;
@@ -345,7 +360,7 @@ mu-4 = record {
 }
 
 unfoldable pub cases : List Case
-cases = a ∷ b ∷ c ∷ d ∷ e ∷ f ∷ f′ ∷ g ∷ h ∷ n-0 ∷ mu-3 ∷ edge-10 ∷ length-0 ∷ lonely ∷ heavy ∷ unequal ∷ other-root ∷ no-edge ∷ no-chain ∷ []
+cases = a ∷ b ∷ c ∷ d ∷ e ∷ f ∷ f′ ∷ g ∷ h ∷ seam ∷ n-0 ∷ mu-3 ∷ edge-10 ∷ length-65536 ∷ lonely ∷ heavy ∷ unequal ∷ other-root ∷ no-edge ∷ no-chain ∷ []
 
 unfoldable pub images : List Bytes
 images = image-a ∷ image-b ∷ short ∷ early ∷ mu-4 ∷ []

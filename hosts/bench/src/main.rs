@@ -9,7 +9,7 @@ mod pivots;
 
 use reference::checks::accept;
 use reference::flow::least_cost;
-use reference::random::{connected, grid, measures, Lengths, Measures, Random};
+use reference::random::{connected, grid, measures, seam, Lengths, Measures, Random};
 use reference::{Edge, Problem};
 use std::hint::black_box;
 use std::time::Instant;
@@ -41,7 +41,7 @@ struct Class {
     measures: Measures,
 }
 
-const CLASSES: [Class; 6] = [
+const CLASSES: [Class; 7] = [
     Class {
         name: "dense 64/512, random lengths",
         vertices: 64,
@@ -64,6 +64,12 @@ const CLASSES: [Class; 6] = [
         name: "grid 8 × 8, random lengths",
         vertices: 64,
         edges: |random| grid(random, 64, 8, Lengths::Any),
+        measures: Measures::Large,
+    },
+    Class {
+        name: "two grids 8 × 4 and a seam",
+        vertices: 64,
+        edges: |random| seam(random, 64, 8, Lengths::Any),
         measures: Measures::Large,
     },
     Class {

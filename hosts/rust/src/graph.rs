@@ -12,7 +12,7 @@ pub struct Edge {
     pub a: u32,
     /// The upper end.
     pub b: u32,
-    /// The length, 1 to 65,535.
+    /// The length, 0 to 65,535; 0 where the ends are welded.
     pub length: u32,
 }
 

@@ -13,7 +13,7 @@ pub enum Refusal {
     TableSize,
     /// 3: an edge has an end that is no vertex, has its ends in falling order, or is not after its forerunner.
     EdgeOrder,
-    /// 4: the length of an edge is 0 or above 65,535.
+    /// 4: the length of an edge is above 65,535. No image gives this: it has two bytes for a length.
     EdgeLength,
     /// 5: some vertex cannot be reached from vertex 0.
     NotConnected,
@@ -98,7 +98,7 @@ impl fmt::Display for Refusal {
             Refusal::VertexCount => "the number of vertices is 0 or above 64",
             Refusal::TableSize => "more than 512 edges, or a table or buffer of the wrong length",
             Refusal::EdgeOrder => "an edge's ends are wrong, or an edge comes twice or out of order",
-            Refusal::EdgeLength => "an edge's length is 0 or above 65,535",
+            Refusal::EdgeLength => "an edge's length is above 65,535",
             Refusal::NotConnected => "some vertex cannot be reached from vertex 0",
             Refusal::TotalTooLarge => "a total is above 16,777,216",
             Refusal::TotalsDiffer => "the two totals differ",

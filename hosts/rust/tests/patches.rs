@@ -68,7 +68,7 @@ fn converter() {
     }
 }
 
-/// Drawing gives a picture with all five frames.
+/// Drawing gives a picture with all five frames, and marks the seams where there are any.
 #[test]
 fn drawing() {
     for path in bundled() {
@@ -81,6 +81,11 @@ fn drawing() {
             .iter()
             .all(|frame| svg.contains(frame)));
         assert!(!svg.contains("NaN") && !svg.contains("inf"));
+
+        let content = fs::read_to_string(&path).expect("a text");
+        let patch = text::parse(&content).expect("sound").patch;
+        let welded = patch.graph().iter().any(|edge| edge.length == 0);
+        assert_eq!(svg.contains("class=\"seam\""), welded, "{}", path.display());
     }
 }
 

@@ -96,6 +96,19 @@ fn cases_g_and_h() {
     assert_eq!(run(line).cost, 15);
 }
 
+/// A welded seam: a ring of edges of length 0, and an edge that leads out of it.
+#[test]
+fn seam() {
+    let seam = Patch::new(4).edges([(0, 1, 0), (0, 2, 0), (1, 2, 0), (2, 3, 5)]);
+    let seam = seam.mu(&[3, 0, 0, 0]).nu(&[0, 1, 0, 2]);
+    let given = run(seam.clone().tree(0, &[0, 0, 1, 2]));
+    assert_eq!((given.cost, given.moves), (10, 2));
+    assert_eq!(given.potential, [0, 0, 0, -5]);
+    assert_eq!(run(seam).cost, 10);
+    let far = Patch::new(2).edge(0, 1, 65_535).mu(&[1, 0]).nu(&[0, 1]);
+    assert_eq!(run(far).cost, 65_535);
+}
+
 /// The examples of the refusal table, over tables.
 #[test]
 fn refusal_table() {
@@ -110,7 +123,7 @@ fn refusal_table() {
     assert_eq!(two().edge(0, 1, 2).run(), Err(Refusal::EdgeOrder));
     assert_eq!(two().edge(1, 2, 2).run(), Err(Refusal::EdgeOrder));
     assert_eq!(two().edge(1, 1, 2).run(), Err(Refusal::EdgeOrder));
-    assert_eq!(Patch::new(2).edge(0, 1, 0).run(), Err(Refusal::EdgeLength));
+    assert_eq!(Patch::new(2).edge(0, 1, 65_536).run(), Err(Refusal::EdgeLength));
     assert_eq!(Patch::new(3).edge(0, 1, 1).run(), Err(Refusal::NotConnected));
     let heavy = Patch::new(1).mu(&[16_777_217]).nu(&[16_777_217]);
     assert_eq!(heavy.run(), Err(Refusal::TotalTooLarge));

@@ -93,8 +93,7 @@ module _ (g : Graph) where
   edge-most short d =
       omega (
         arith,
-        leb-true (at (g .lengths) (d .number)) 65535
-            (and-r (ltb 0 (at (g .lengths) (d .number))) _ (all-at (edges g) (lengthFits (g .lengths)) short (d .number) (d .here))),
+        leb-true (at (g .lengths) (d .number)) 65535 (all-at (edges g) (lengthFits (g .lengths)) short (d .number) (d .here)),
         d .size,
       )
 

@@ -83,7 +83,7 @@ pub fn check_graph(problem: &Problem) -> Result<(), u32> {
     refuse_if(3, edges.iter().any(|e| e.b >= *n || e.a >= e.b))?;
     let rising = |pair: &[Edge]| (pair[0].a, pair[0].b) < (pair[1].a, pair[1].b);
     refuse_if(3, !edges.windows(2).all(rising))?;
-    refuse_if(4, edges.iter().any(|e| e.length == 0 || e.length > 65_535))?;
+    refuse_if(4, edges.iter().any(|e| e.length > 65_535))?;
 
     let mut component: Vec<usize> = (0..*n).collect();
     for e in edges {

@@ -64,6 +64,9 @@ pub enum Lengths {
     Any,
     Extreme,
     Longest,
+    /// 0 or a few more, more often 0.
+    OftenZero,
+    Zero,
 }
 
 /// How the two measures are drawn.
@@ -80,12 +83,14 @@ pub enum Measures {
     Permuted,
 }
 
-const LENGTHS: [Lengths; 5] = [
+const LENGTHS: [Lengths; 7] = [
     Lengths::Unit,
     Lengths::Few,
     Lengths::Any,
     Lengths::Extreme,
     Lengths::Longest,
+    Lengths::OftenZero,
+    Lengths::Zero,
 ];
 
 const MEASURES: [Measures; 9] = [
@@ -105,8 +110,10 @@ fn length(random: &mut Random, lengths: Lengths) -> u64 {
         Lengths::Unit => 1,
         Lengths::Few => random.between(1, 3),
         Lengths::Any => random.between(1, 65_535),
-        Lengths::Extreme => random.pick(&[1, 2, 65_534, 65_535]),
+        Lengths::Extreme => random.pick(&[0, 1, 2, 65_534, 65_535]),
         Lengths::Longest => 65_535,
+        Lengths::OftenZero => random.pick(&[0, 0, 0, 1, 2, 65_535]),
+        Lengths::Zero => 0,
     }
 }
 
@@ -170,6 +177,36 @@ pub fn ring(random: &mut Random, n: usize, lengths: Lengths) -> Vec<Edge> {
     let steps = (0..n).map(|x| pair(x, (x + 1) % n));
     let pairs = steps.filter(|p| p.0 != p.1).collect();
     with_lengths(random, pairs, lengths)
+}
+
+/// Two grids of the given width and of equally many rows, sewn together by edges of length 0 from the last row of the one
+/// to the first row of the other.
+pub fn seam(random: &mut Random, n: usize, width: usize, lengths: Lengths) -> Vec<Edge> {
+    let border = n / 2;
+    let mut edges = grid(random, n, width, lengths);
+    let welded = |e: &&mut Edge| e.a < border && e.b >= border;
+    edges.iter_mut().filter(welded).for_each(|e| e.length = 0);
+    edges
+}
+
+/// Rings or cliques of edges of length 0, of up to five vertices each, and edges of the drawn lengths between them.
+pub fn welds(random: &mut Random, n: usize, lengths: Lengths) -> Vec<Edge> {
+    let size = 2 + random.index(4);
+    let whole = random.chance(2);
+    let m = random.between(n as u64, 4 * n as u64) as usize;
+    let mut edges = connected(random, n, m, lengths);
+    let group = |x: usize| x / size;
+    let mut welded = Vec::new();
+    for (a, b) in (0..n).flat_map(|a| (a + 1..n).map(move |b| (a, b))) {
+        let closes = a % size == 0 && (b % size == size - 1 || b == n - 1);
+        if group(a) == group(b) && (whole || b == a + 1 || closes) {
+            welded.push(Edge { a, b, length: 0 });
+        }
+    }
+    edges.retain(|e| group(e.a) != group(e.b));
+    edges.extend(welded);
+    edges.sort_unstable_by_key(|e| (e.a, e.b));
+    edges
 }
 
 /// Adds `total` to random places of a list, in a few heaps or many.
@@ -271,11 +308,13 @@ pub fn problem(random: &mut Random) -> Problem {
         _ => random.between(1, 64),
     } as usize;
     let lengths = random.pick(&LENGTHS);
-    let edges = match random.below(8) {
+    let edges = match random.below(10) {
         0 => grid(random, n, 1 + n / 8, lengths),
         1 => ring(random, n, lengths),
         2 => connected(random, n, n, lengths),
         3 => connected(random, n, 512, lengths),
+        4 => seam(random, n, 1 + n / 8, lengths),
+        5 => welds(random, n, lengths),
         _ => {
             let m = random.between(0, 512) as usize;
             connected(random, n, m, lengths)
@@ -314,7 +353,6 @@ pub enum Fault {
     ShortRecord,
     EdgeEnds,
     EdgeOrder,
-    ZeroLength,
     Disconnected,
     TotalTooLarge,
     TotalsDiffer,
@@ -331,13 +369,12 @@ pub enum Fault {
     SecondByte,
 }
 
-pub const FAULTS: [Fault; 20] = [
+pub const FAULTS: [Fault; 19] = [
     Fault::VertexCount,
     Fault::TooManyEdges,
     Fault::ShortRecord,
     Fault::EdgeEnds,
     Fault::EdgeOrder,
-    Fault::ZeroLength,
     Fault::Disconnected,
     Fault::TotalTooLarge,
     Fault::TotalsDiffer,
@@ -447,7 +484,6 @@ fn spoil_problem(random: &mut Random, problem: &mut Problem, fault: Fault) {
                 problem.edges[k + 1] = problem.edges[k];
             }
         }
-        ZeroLength if m > 0 => problem.edges[random.index(m)].length = 0,
         Disconnected if n > 1 && m > 0 => {
             let lone = random.index(n);
             problem.edges.retain(|e| e.a != lone && e.b != lone);

@@ -34,12 +34,11 @@ pub const LIST_FAULTS: [ListFault; 10] = [
 ];
 
 /// The faults that lists share with images.
-pub const SHARED_FAULTS: [Fault; 14] = [
+pub const SHARED_FAULTS: [Fault; 13] = [
     Fault::VertexCount,
     Fault::TooManyEdges,
     Fault::EdgeEnds,
     Fault::EdgeOrder,
-    Fault::ZeroLength,
     Fault::Disconnected,
     Fault::TotalTooLarge,
     Fault::TotalsDiffer,

@@ -96,7 +96,7 @@ fn valid_images() {
     assert!(count < 100 || tally.evaluated > count / 4 && tally.solved > count / 4);
 }
 
-/// Each fault in its turn, alone and with others: every refusal number comes up.
+/// Each fault in its turn, alone and with others: every refusal number comes up but 4, since an image holds no length above 65,535.
 #[test]
 fn faulty_images() {
     let (seed, count) = (seed(), images());
@@ -109,7 +109,8 @@ fn faulty_images() {
     };
     let tally = pass(run("faulty", seed, count, &mover_run, &draw));
     println!("faulty images: seed {seed}, {count} cases: {tally}");
-    for number in 1..14 {
+    assert_eq!(tally.refused[4], 0);
+    for number in (1..14).filter(|&k| k != 4) {
         assert!(
             count < 200 || tally.refused[number] > 0,
             "no case was refused {number}"

@@ -167,7 +167,7 @@ pub const QUALITIES: [Quality; 4] = [Quality::Any, Quality::Best, Quality::Nearl
 fn small_problem(random: &mut Random) -> Problem {
     let n = random.between(2, 7) as usize;
     let m = random.between(n as u64, 12) as usize;
-    let lengths = random.pick(&[Lengths::Unit, Lengths::Few]);
+    let lengths = random.pick(&[Lengths::Unit, Lengths::Few, Lengths::OftenZero, Lengths::Zero]);
     let edges = random::connected(random, n, m, lengths);
     let kind = random.pick(&[Measures::Small, Measures::ZeroOrOne, Measures::Sparse]);
     let (mu, nu) = random::measures(random, n, kind);
@@ -226,7 +226,8 @@ fn all_trees_of_small_graphs() {
     let count = cases(300);
     for _ in 0..count {
         let n = random.between(1, 5) as usize;
-        let edges = random::connected(random, n, 8, Lengths::Few);
+        let lengths = random.pick(&[Lengths::Few, Lengths::OftenZero, Lengths::Zero]);
+        let edges = random::connected(random, n, 8, lengths);
         let (mu, nu) = random::measures(random, n, Measures::Small);
         let tree = None;
         let mut problem = Problem {

@@ -4,7 +4,8 @@ use crate::jobs::{judge, library, replace, run, try_case, Call, Job, Make, Room,
 use crate::spoils::{Spoil, FIGURES, TREES};
 use crate::tables::{faulty_case, judged_case, sound_case, QUALITIES};
 use crate::{brief, pass};
-use reference::flow::least_cost;
+use reference::checks::check_graph;
+use reference::flow::{distances, least_cost};
 use reference::random::Random;
 use reference::random_lists::sound_problem;
 use reference::random_trees::cheaper_neighbour;
@@ -14,7 +15,7 @@ use reference::{Lists, Problem};
 type Wrong = fn(Call, &mut Job) -> u32;
 
 /// Calls that are wrong as calls: in their number, or in what they write.
-const WRONG_CALLS: [(&str, Wrong); 9] = [
+const WRONG_CALLS: [(&str, Wrong); 10] = [
     ("7 for everybody", |_, _| 7),
     ("accepts everything", |call, job| {
         job.make(call);
@@ -57,12 +58,16 @@ const WRONG_CALLS: [(&str, Wrong); 9] = [
     }),
     ("tests lengths before the order of edges", |call, job| {
         match job.make(call) {
-            3 if job.lengths.content().contains(&0) => 4,
+            3 if job.lengths.content().iter().any(|&l| l > 65_535) => 4,
             number => number,
         }
     }),
     ("tests 16 bits of a length", |call, job| match job.make(call) {
-        4 if job.lengths.content().iter().all(|l| l & 0xFFFF != 0) => 0,
+        4 => 0,
+        number => number,
+    }),
+    ("refuses a length of 0", |call, job| match job.make(call) {
+        0 if job.lengths.content().contains(&0) => 4,
         number => number,
     }),
 ];
@@ -163,7 +168,7 @@ fn caught(call: Call, count: u64, make: Make) -> u64 {
 type SpoilJob = fn(&Problem, &mut Job);
 
 /// Spoils of answers, each of one kind of call.
-const ANSWERS: [(&str, Call, SpoilJob); 16] = [
+const ANSWERS: [(&str, Call, SpoilJob); 18] = [
     (
         "edges as they are, no way round",
         Call::Distances,
@@ -173,6 +178,16 @@ const ANSWERS: [(&str, Call, SpoilJob); 16] = [
         "edges as they are, no way round",
         Call::Records,
         lengths_for_distances,
+    ),
+    (
+        "edges of length 0 taken for none",
+        Call::Distances,
+        distances_without_seams,
+    ),
+    (
+        "edges of length 0 taken for none",
+        Call::Records,
+        distances_without_seams,
     ),
     ("row 0 alone", Call::Distances, |p, job| {
         job.out.content_mut()[p.n..].fill(0)
@@ -226,6 +241,17 @@ fn lengths_for_distances(problem: &Problem, job: &mut Job) {
     for e in &problem.edges {
         job.out.content_mut()[e.a * n + e.b] = e.length as u32;
         job.out.content_mut()[e.b * n + e.a] = e.length as u32;
+    }
+}
+
+/// The distances where edges of length 0 are left out, if all vertices can still be reached.
+fn distances_without_seams(problem: &Problem, job: &mut Job) {
+    let mut without = problem.clone();
+    without.edges.retain(|e| e.length > 0);
+    if check_graph(&without).is_ok() {
+        for (place, d) in job.out.content_mut().iter_mut().zip(distances(&without)) {
+            *place = d as u32;
+        }
     }
 }
 

@@ -22,11 +22,71 @@ pub fn places(n: usize, edges: &[Edge]) -> Vec<Point> {
     places.iter().map(|p| (p.0 * across, p.1 * down)).collect()
 }
 
+/// The middle one of some lengths, 1 if there are none.
+fn median(mut lengths: Vec<f64>) -> f64 {
+    lengths.sort_by(f64::total_cmp);
+    lengths.get(lengths.len() / 2).copied().unwrap_or(1.0)
+}
+
+/// An edge between two vertices that are in one place.
+pub fn is_seam(edge: &Edge) -> bool {
+    edge.length == 0
+}
+
+/// Opens the seams: welded vertices that are drawn closer together than a third of a usual edge part, each
+/// towards its own piece where there is one.
+pub fn open_seams(places: &mut [Point], edges: &[Edge]) {
+    let drawn = |places: &[Point], e: &Edge| {
+        let (p, q) = (places[e.a as usize], places[e.b as usize]);
+        (q.0 - p.0).hypot(q.1 - p.1)
+    };
+    let (seams, others): (Vec<&Edge>, Vec<&Edge>) = edges.iter().partition(|e| is_seam(e));
+    let usual = median(
+        others
+            .iter()
+            .map(|e| drawn(places, e))
+            .filter(|d| *d > 0.0)
+            .collect(),
+    );
+    let least = usual / 3.0;
+    let closed = |e: &&Edge| drawn(places, e) < least;
+    let narrow: Vec<&Edge> = seams.into_iter().filter(closed).collect();
+    for e in &narrow {
+        for x in [e.a as usize, e.b as usize] {
+            let own = others.iter().filter_map(|o| match x {
+                x if x == o.a as usize => Some(places[o.b as usize]),
+                x if x == o.b as usize => Some(places[o.a as usize]),
+                _ => None,
+            });
+            let own: Vec<Point> = own.collect();
+            for near in &own {
+                let part = 0.1 / own.len() as f64;
+                places[x].0 += part * (near.0 - places[x].0);
+                places[x].1 += part * (near.1 - places[x].1);
+            }
+        }
+    }
+    for _ in 0..100 {
+        for e in &narrow {
+            let (a, b) = (e.a as usize, e.b as usize);
+            let (mut dx, mut dy) = (places[b].0 - places[a].0, places[b].1 - places[a].1);
+            if dx.hypot(dy) < 1e-9 * usual {
+                // No way out shows: a different one for each pair.
+                let angle = 2.4 * a as f64 + 0.7 * b as f64;
+                (dx, dy) = (angle.cos(), angle.sin());
+            }
+            let now = drawn(places, e);
+            let by = (least - now).max(0.0) / 2.0 / dx.hypot(dy);
+            places[a] = (places[a].0 - by * dx, places[a].1 - by * dy);
+            places[b] = (places[b].0 + by * dx, places[b].1 + by * dy);
+        }
+    }
+}
+
 /// Distances in the graph, with lengths drawn towards their median: none so short that vertices collide.
 fn distances(n: usize, edges: &[Edge]) -> Vec<f64> {
-    let mut lengths: Vec<u32> = edges.iter().map(|e| e.length).collect();
-    lengths.sort_unstable();
-    let median = f64::from(lengths[lengths.len() / 2]).max(1.0);
+    let long = edges.iter().filter(|e| !is_seam(e));
+    let median = median(long.map(|e| f64::from(e.length)).collect());
     let mut d = vec![f64::INFINITY; n * n];
     for &Edge { a, b, length } in edges {
         let (a, b) = (a as usize, b as usize);
@@ -149,8 +209,38 @@ fn cross(places: &[Point], p: (usize, usize), q: (usize, usize)) -> bool {
 
 #[cfg(test)]
 mod tests {
-    use super::{faces, places};
+    use super::{faces, open_seams, places, Point};
     use weight_mover::Edge;
+
+    fn apart(p: Point, q: Point) -> f64 {
+        (q.0 - p.0).hypot(q.1 - p.1)
+    }
+
+    #[test]
+    fn seams_are_opened() {
+        // Two pieces, 0 1 and 2 3, whose borders 1 and 2 were given one place.
+        let edges = [(0, 1, 9), (1, 2, 0), (2, 3, 9)].map(Edge::from);
+        let mut row = [(0.0, 0.0), (3.0, 0.0), (3.0, 0.0), (6.0, 0.0)];
+        open_seams(&mut row, &edges);
+        assert!((apart(row[1], row[2]) - 1.0).abs() < 1e-6);
+        assert!(row[0].0 < row[1].0 && row[1].0 < row[2].0 && row[2].0 < row[3].0);
+
+        let welded = [(0, 1, 0), (0, 2, 0), (1, 2, 0)].map(Edge::from);
+        let mut heap = [(5.0, 5.0); 3];
+        open_seams(&mut heap, &welded);
+        for (x, y) in [(0, 1), (0, 2), (1, 2)] {
+            assert!(apart(heap[x], heap[y]) > 0.3);
+        }
+    }
+
+    #[test]
+    fn other_places_stay() {
+        let edges = [(0, 1, 9), (1, 2, 0)].map(Edge::from);
+        let given = [(0.0, 0.0), (3.0, 0.0), (3.0, 2.0)];
+        let mut row = given;
+        open_seams(&mut row, &edges);
+        assert_eq!(row, given);
+    }
 
     #[test]
     fn a_line_is_drawn_straight() {

@@ -1,6 +1,6 @@
 //! The picture: moves and tree above, a row of frames below.
 
-use crate::layout::{faces, places, Point};
+use crate::layout::{faces, is_seam, open_seams, places, Point};
 use std::fmt::Write;
 use weight_mover::text::Drawing;
 use weight_mover::{Answer, Edge};
@@ -17,6 +17,7 @@ const BEFORE: [u8; 3] = [47, 92, 168];
 const AFTER: [u8; 3] = [214, 92, 50];
 const SKIN: &str = "#f8eadf";
 const MESH: &str = "#d8bfae";
+const SEAM: &str = "#b3432b";
 const INK: &str = "#2b2622";
 const FAINT: &str = "#8a7d73";
 
@@ -47,10 +48,11 @@ struct View<'a> {
 pub fn svg(drawing: &Drawing, answer: &Answer) -> String {
     let n = answer.vertices();
     let edges: Vec<Edge> = drawing.patch.graph().iter().collect();
-    let places = match drawing.places.as_slice() {
+    let mut places = match drawing.places.as_slice() {
         [] => places(n, &edges),
         given => given.to_vec(),
     };
+    open_seams(&mut places, &edges);
     let faces = faces(&places, &edges);
     let (low, high) = bounds(&places);
     let shape = ((high.1 - low.1) / (high.0 - low.0).max(1e-9)).clamp(0.3, 0.75);
@@ -98,7 +100,11 @@ pub fn svg(drawing: &Drawing, answer: &Answer) -> String {
         left: MARGIN + half + GAP,
         ..left
     };
-    caption(&mut out, &left, "Moves of the plan", "thicker: more");
+    let note = match edges.iter().any(is_seam) {
+        true => "thicker: more; dotted: a seam",
+        false => "thicker: more",
+    };
+    caption(&mut out, &left, "Moves of the plan", note);
     view(&left, true).moves(&mut out);
     let note = "arrows: flow on the tree; dark: high potential";
     caption(&mut out, &right, "Spanning tree and potential", note);
@@ -182,17 +188,27 @@ impl View<'_> {
             let corners: Vec<String> = face.iter().map(|&x| pair(self.points[x])).collect();
             let _ = writeln!(out, "<polygon points=\"{}\" fill=\"{SKIN}\"/>", corners.join(" "));
         }
+        let thin = if self.labels { 1.6 } else { 1.0 };
+        let (seams, skin): (Vec<&Edge>, Vec<&Edge>) = self.edges.iter().partition(|e| is_seam(e));
+        self.lines(out, &skin, &format!("stroke=\"{MESH}\" stroke-width=\"{thin}\""));
+        if !seams.is_empty() {
+            let dots = format!(
+                "class=\"seam\" stroke=\"{SEAM}\" stroke-width=\"{:.1}\" stroke-linecap=\"round\" stroke-dasharray=\"0 {:.1}\"",
+                1.6 * thin,
+                3.2 * thin
+            );
+            self.lines(out, &seams, &dots);
+        }
+    }
+
+    /// Some edges as one path.
+    fn lines(&self, out: &mut String, edges: &[&Edge], style: &str) {
         let mut path = String::new();
-        for edge in self.edges {
+        for edge in edges {
             let (p, q) = ends(&self.points, edge);
             let _ = write!(path, "M{} L{} ", pair(p), pair(q));
         }
-        let thin = if self.labels { 1.6 } else { 1.0 };
-        let path = path.trim_end();
-        let _ = writeln!(
-            out,
-            "<path d=\"{path}\" stroke=\"{MESH}\" stroke-width=\"{thin}\" fill=\"none\"/>"
-        );
+        let _ = writeln!(out, "<path d=\"{}\" {style} fill=\"none\"/>", path.trim_end());
     }
 
     fn size(&self, amount: f64) -> f64 {

@@ -2,7 +2,8 @@
 
 A patch has n vertices, 0 to n - 1, with n from 1 to 64, and at most 512 edges. An edge
 is (a, b, length): two vertices, in either order, and a length from 0 to 65,535 in
-hundredths of a millimetre; 0 joins welded vertices. Edges come in any order, no pair of vertices twice.
+hundredths of a millimetre; 0 joins welded vertices. Edges come in any order, no pair of
+vertices twice.
 
 A painting is one whole amount, in grains, for each vertex. `mu` is the painting before,
 `nu` the one after. Both have the same total, at most 16,777,216 grains.
@@ -526,7 +527,8 @@ def run(image: BytesLike) -> Answer:
     """The answer to an image, a bytes-like object: the plan of its tree if it has one,
     as from `evaluate`, or else the best, as from `solve`.
 
-    Refuses by 11, 12, 13 and then 1 to 10; without a tree it stops after 7.
+    Refuses by 11, 12, 13 and then 1 to 10; without a tree it stops after 7. It never
+    refuses by 4, since an image has two bytes for a length.
     """
     given, record = _image(image), (c_uint8 * _RECORD_MAX)()
     _check("mover_run", given, record)

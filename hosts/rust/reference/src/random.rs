@@ -179,10 +179,10 @@ pub fn ring(random: &mut Random, n: usize, lengths: Lengths) -> Vec<Edge> {
     with_lengths(random, pairs, lengths)
 }
 
-/// Two grids of the given width and of equally many rows, sewn together by edges of length 0 from the last row of the one
-/// to the first row of the other.
+/// Two grids of the given width, sewn together by edges of length 0 from the last row of the one to the first row of the
+/// other: a grid with its seam between two rows, about the middle.
 pub fn seam(random: &mut Random, n: usize, width: usize, lengths: Lengths) -> Vec<Edge> {
-    let border = n / 2;
+    let border = n / (2 * width) * width;
     let mut edges = grid(random, n, width, lengths);
     let welded = |e: &&mut Edge| e.a < border && e.b >= border;
     edges.iter_mut().filter(welded).for_each(|e| e.length = 0);

@@ -129,7 +129,7 @@ uint32_t mover_distances_of_records(size_t n, const mover_edge *edges, size_t ed
  *
  *   imbalance  at least n: mu - nu, summed over the vertices below each vertex
  *   potential  at least n: over the edges from a vertex up to the root, the sum of the lengths, each with
- *              the sign of the imbalance below it (+ where that is 0); 0 at the root
+ *              the sign of the imbalance below it, none where that is 0; 0 at the root
  *   plan       at least n x n: amounts from (row) and to (column)
  *   cost       over the edges of the tree, the sum of length times |imbalance|: what the plan costs on it
  *   moves      the number of positive entries of the plan off its diagonal

@@ -60,7 +60,8 @@ def weigh(problem: Problem, parents: List[int]) -> Weighed:
     difference = problem.difference
     imbalance = [sum(difference[y] for y in below[x]) for x in range(n)]
     up = [0 if parents[x] == x else lengths[x, parents[x]] for x in range(n)]
-    slope = [up[x] if imbalance[x] >= 0 else -up[x] for x in range(n)]
+    sign = [(z > 0) - (z < 0) for z in imbalance]
+    slope = [sign[x] * up[x] for x in range(n)]
     return Weighed(
         imbalance,
         [sum(slope[x] for x in chains[y]) for y in range(n)],

@@ -361,9 +361,11 @@ class Answer:
     plan       entries (from, to, grains) by from, then to; what stays is in it too
     root       the tree's root; 0 in a best answer
     parents    each vertex's parent in the tree; the root is its own
-    potential  hundredths of a millimetre for each vertex; 0 at the root. In a best
-               answer it changes along no edge by more than the edge's length, and the
-               sum of potential times (mu - nu) is the cost: so no plan is cheaper
+    potential  hundredths of a millimetre for each vertex; 0 at the root. In an
+               evaluated tree it falls by the edge's length the way the grains go, and
+               is flat along an edge that carries none. In a best answer it changes
+               along no edge by more than the edge's length, and the sum of potential
+               times (mu - nu) is the cost: so no plan is cheaper
     table      the plan in full: table[i][j] grains go from i to j
     """
 

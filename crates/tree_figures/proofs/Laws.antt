@@ -1,2 +1,3 @@
 pub mod Signs
 pub mod Figure
+pub mod Tight

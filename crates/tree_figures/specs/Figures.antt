@@ -1,5 +1,5 @@
 -- Document 01, "Weighing a given tree": imbalance, sign, potential and tree cost. mu and nu are the paintings, p the parents, r the root.
-use Prim.Native.Nat.{ℕ, _*_}
+use Prim.Native.Nat.{ℕ, zero, suc, _*_}
 use mathlib.Core.Bool.{not, _&&_}
 use lib.Dec.{eqb}
 use lib.IntN.{ℤ, pos, negsuc, natAbs, subℕ, _*ℤ_}
@@ -16,9 +16,10 @@ difference mu nu x = subℕ (mu x) (nu x)
 unfoldable pub imbalance : ℕ → (ℕ → ℕ) → (ℕ → ℕ) → (ℕ → ℕ) → ℕ → ℤ
 imbalance n p mu nu x = sumℤ n (λ y. pickℤ (below p n y x) (difference mu nu y))
 
--- "Sign: +1 where Ξ is zero or more, −1 where it is less"
+-- "Sign: +1 where Ξ is ... more, −1 where it is less"; document 02, W-202: "the sign of 0 is 0"
 abbrev pub sign : ℤ → ℤ
-sign (pos k) = pos 1
+sign (pos zero) = pos 0
+sign (pos (suc k)) = pos 1
 sign (negsuc k) = negsuc 0
 
 -- "the length from x to its parent"

@@ -52,15 +52,15 @@ pub fn tree_cost(n: usize, root: usize, above: &[u32], supply: &[u64], demand: &
     cost
 }
 
-// the sign of the imbalance of x: +1 where it is zero or more
+// the sign of the imbalance of x is +1: the potential rises to x
 fn rises(imbalance: &[i32], x: usize) -> bool
     requires { ⌜ (x < length (now imbalance)) × (mag (getD (now imbalance) x (pos 0)) < 2 ^ 31) ⌝ }
     ensures { λ r. ⌜ r ≡ rises (getD (now (imbalance .entry)) x (pos 0)) ⌝ }
 {
-    0 <= imbalance[x]
+    0 < imbalance[x]
 }
 
-// and −1 where it is less
+// it is −1
 fn falls(imbalance: &[i32], x: usize) -> bool
     requires { ⌜ (x < length (now imbalance)) × (mag (getD (now imbalance) x (pos 0)) < 2 ^ 31) ⌝ }
     ensures { λ r. ⌜ r ≡ falls (getD (now (imbalance .entry)) x (pos 0)) ⌝ }

@@ -1,4 +1,4 @@
--- Cases A to H of document 01, and each example of its table of refusals: one table, inputs beside figures.
+-- Cases A to H of document 01, two more of document 02, and each example of the table of refusals: one table, inputs beside figures.
 use mathlib.Core.List.{List, [], _∷_}
 use lib.IntN.{pos, negsuc}
 use Rattle.graph.specs.Graph.{graph}
@@ -39,14 +39,14 @@ b = record {
   judged = said 0;
 }
 
--- C: B's ring and tree, with equal paintings: the tree's own potential jumps by 3 over an edge of length 1, and the tree is best
+-- C: B's ring and tree, with equal paintings: nothing moves, and the potential is flat (document 02, W-202)
 abbrev pub c : Case
 c = record {
   patch = graph 4 (0 ∷ 0 ∷ 1 ∷ 2 ∷ []) (1 ∷ 3 ∷ 2 ∷ 3 ∷ []) (1 ∷ 1 ∷ 1 ∷ 1 ∷ []);
   lent = given (1 ∷ 1 ∷ 1 ∷ 1 ∷ []) (1 ∷ 1 ∷ 1 ∷ 1 ∷ []) 0 (0 ∷ 0 ∷ 1 ∷ 2 ∷ []);
   refusal = 0;
   imbalances = silent;
-  potentials = said (pos 0 ∷ pos 1 ∷ pos 2 ∷ pos 3 ∷ []);
+  potentials = said (pos 0 ∷ pos 0 ∷ pos 0 ∷ pos 0 ∷ []);
   cost = said 0;
   moved = silent;
   entries = silent;
@@ -142,6 +142,21 @@ h = record {
   entries = silent;
   best = silent;
   judged = silent;
+}
+
+-- a best tree whose own potential falls by 2 along edge (0, 2) of length 1: a tree is not judged by it
+abbrev pub own-potential : Case
+own-potential = record {
+  patch = graph 3 (0 ∷ 0 ∷ 1 ∷ []) (1 ∷ 2 ∷ 2 ∷ []) (2 ∷ 1 ∷ 3 ∷ []);
+  lent = given (1 ∷ 0 ∷ 0 ∷ []) (0 ∷ 1 ∷ 0 ∷ []) 0 (0 ∷ 0 ∷ 1 ∷ []);
+  refusal = 0;
+  imbalances = said (pos 0 ∷ negsuc 0 ∷ pos 0 ∷ []);
+  potentials = said (pos 0 ∷ negsuc 1 ∷ negsuc 1 ∷ []);
+  cost = said 2;
+  moved = said 1;
+  entries = said (0 ∷ 1 ∷ 0 ∷ 0 ∷ 0 ∷ 0 ∷ 0 ∷ 0 ∷ 0 ∷ []);
+  best = said (record { parents = (0 ∷ 0 ∷ 1 ∷ []); potentials = (pos 0 ∷ negsuc 1 ∷ negsuc 0 ∷ []); cost = 2 });
+  judged = said 1;
 }
 
 -- a welded seam (document 02, W-206): a ring of edges of length 0, and an edge that leads out of it
@@ -360,7 +375,7 @@ mu-4 = record {
 }
 
 unfoldable pub cases : List Case
-cases = a ∷ b ∷ c ∷ d ∷ e ∷ f ∷ f′ ∷ g ∷ h ∷ seam ∷ n-0 ∷ mu-3 ∷ edge-10 ∷ length-65536 ∷ lonely ∷ heavy ∷ unequal ∷ other-root ∷ no-edge ∷ no-chain ∷ []
+cases = a ∷ b ∷ c ∷ d ∷ e ∷ f ∷ f′ ∷ g ∷ h ∷ own-potential ∷ seam ∷ n-0 ∷ mu-3 ∷ edge-10 ∷ length-65536 ∷ lonely ∷ heavy ∷ unequal ∷ other-root ∷ no-edge ∷ no-chain ∷ []
 
 unfoldable pub images : List Bytes
 images = image-a ∷ image-b ∷ short ∷ early ∷ mu-4 ∷ []

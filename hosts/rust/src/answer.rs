@@ -166,8 +166,8 @@ pub struct Evaluation {
     pub imbalance: Vec<i32>,
     /// The tree with its cost, plan and potential.
     ///
-    /// The potential is the sum of the lengths up to the root, each with the sign of the imbalance below it
-    /// (+ where that is 0).
+    /// The potential is the sum of the lengths up to the root, each with the sign of the imbalance below it:
+    /// an edge that carries nothing is flat.
     pub answer: Answer,
 }
 

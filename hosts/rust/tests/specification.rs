@@ -50,7 +50,18 @@ fn cases_b_and_c() {
     let given = c.tree(0, &[0, 0, 1, 2]);
     assert!(weigh(&given).1);
     let answer = run(given);
-    assert_eq!((answer.cost, answer.potential.as_slice()), (0, &[0, 1, 2, 3][..]));
+    assert_eq!((answer.cost, answer.potential.as_slice()), (0, &[0, 0, 0, 0][..]));
+}
+
+/// A best tree whose own potential falls along edge (0, 2) by more than its length.
+#[test]
+fn own_potential() {
+    let patch = Patch::new(3).edge(0, 1, 2).edge(0, 2, 1).edge(1, 2, 3);
+    let given = patch.mu(&[1, 0, 0]).nu(&[0, 1, 0]).tree(0, &[0, 0, 1]);
+    let (evaluation, judged) = weigh(&given);
+    assert_eq!((evaluation.imbalance, judged), (vec![0, -1, 0], true));
+    let answer = run(given);
+    assert_eq!((answer.cost, answer.potential.as_slice()), (2, &[0, -2, -2][..]));
 }
 
 #[test]

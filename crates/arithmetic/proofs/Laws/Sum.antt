@@ -7,7 +7,7 @@ use native.Mathlib.Omega.{arith}
 use lib.Dec.{eqb}
 use borrow.Author.Tests.{eq-eqb, ne-eqb}
 use Rattle.arithmetic.specs.Sum.{pick, sum}
-use Rattle.arithmetic.proofs.Laws.Bools.{case≡, eqb-sym}
+use Rattle.arithmetic.proofs.Laws.Bools.{case≡, case<, eqb-sym}
 
 pub pick-zero : (b : Bool) → pick b 0 ≡ 0
 pick-zero true = refl
@@ -48,6 +48,11 @@ sum-lt (suc n) f g k l s h =
     case≡ k n
     (λ e. omega (arith, sum-le n f g (λ i l. h i (omega arith)), ap f e, ap g e))
     (λ d. omega (arith, sum-lt n f g k (omega arith) s (λ i l. h i (omega arith)), h n (omega arith)))
+
+-- terms that are no more than the others' are equal to them if the sums are
+pub sum-equal : (n : ℕ) (f g : ℕ → ℕ) → ((i : ℕ) → i < n → f i ≤ g i) → sum n f ≡ sum n g → (i : ℕ) → i < n → f i ≡ g i
+sum-equal n f g h e i l =
+    case< (f i) (g i) (λ s. absurd (omega (arith, sum-lt n f g i l s h, e))) (λ s. omega (arith, h i l))
 
 pub sum-zero : (n : ℕ) → sum n (λ i. 0) ≡ 0
 unfolding sum

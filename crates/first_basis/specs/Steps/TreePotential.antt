@@ -26,6 +26,7 @@ fall n p l up x = inner 0 x (pick (not (up x)) (l x))
 unfoldable pub netRise : (n : ℕ) (p l : ℕ → ℕ) (up : ℕ → Bool) → ℕ → ℕ
 netRise n p l up y = groundPotential + pathSum p n (rise n p l up) y - pathSum p n (fall n p l up) y
 
--- ---- the walk from y up to the root, and the table of all
+-- ---- the walk from y up to the root, and the table of all. It falls where nothing flows, which the perturbed masses leave nowhere: the document's
+-- potential is flat there.
 abbrev pub potentialAt : ℕ → (parents lengths supply demand : List ℕ) → ℕ → ℕ
 potentialAt n parents lengths supply demand = netRise n (at parents) (at lengths) (λ x. ltb (at demand x) (at supply x))

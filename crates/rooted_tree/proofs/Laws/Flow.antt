@@ -8,10 +8,10 @@ use native.Mathlib.Omega.{arith}
 use lib.Dec.{eqb, leb}
 use borrow.Author.Tests.{ne-eqb, le-leb, lt-leb, leb-true, leb-false, not-true}
 use Rattle.arithmetic.specs.Sum.{pick, sum}
-use Rattle.arithmetic.specs.Steps.Product.{gap, Agrees}
+use Rattle.arithmetic.specs.Steps.Product.{gap, Tight, Agrees}
 use Rattle.arithmetic.proofs.Laws.Bools.{case≡, case≤, eqb-self}
-use Rattle.arithmetic.proofs.Laws.Sum.{pick-zero, sum-ext, sum-le, sum-lt, sum-add}
-use Rattle.arithmetic.proofs.Laws.Product.{gap-comm, product-le, product-eq}
+use Rattle.arithmetic.proofs.Laws.Sum.{pick-zero, sum-ext, sum-le, sum-lt, sum-equal, sum-add}
+use Rattle.arithmetic.proofs.Laws.Product.{gap-comm, product-le, product-tight, tight-product, agrees-tight}
 use Rattle.rooted_tree.specs.Chain.{below}
 use Rattle.rooted_tree.specs.Steps.Rooted.{Rooted}
 use Rattle.rooted_tree.specs.Steps.Subtotal.{subtotal, inner}
@@ -83,33 +83,48 @@ module _ {n r : ℕ} {p : ℕ → ℕ} (t : Rooted n r p) (U l m v : ℕ → ℕ
   unfolding B
   v-parts = by-parts t U v
 
-  -- weak duality: a potential within the lengths
-  pub tree-weak : ((x : ℕ) → x < n → (x ≡ r → ⊥) → (U x ≤ U (p x) + l x) × (U (p x) ≤ U x + l x))
-      → sum n (λ y. U y * m y) ≤ sum n (λ y. U y * v y) + flowCost n r p l m v
-  unfolding left right
-  tree-weak near = omega (arith, left-sum, right-sum, m-parts, v-parts, sum-le n left right at)
-    where
-      at : (x : ℕ) → x < n → left x ≤ right x
-      at x h =
-          case≡ x r
-          (λ e. rw e (omega (arith, root-sides)))
-          (λ d. rw (ne-eqb x r d) (product-le (U x) (U (p x)) (l x) (A x) (B x) (near x h d .0) (near x h d .1)))
+  -- the potential is within the lengths
+  abbrev Near : Type 0
+  Near = (x : ℕ) → x < n → (x ≡ r → ⊥) → (U x ≤ U (p x) + l x) × (U (p x) ≤ U x + l x)
 
-  -- strong duality: a potential that agrees with the flow
-  pub tree-strong : ((x : ℕ) → x < n → (x ≡ r → ⊥) → Agrees (U x) (U (p x)) (l x) (subtotal p n m x) (subtotal p n v x))
+  left-le-right : Near → (x : ℕ) → x < n → left x ≤ right x
+  unfolding left right
+  left-le-right near x h =
+      case≡ x r
+      (λ e. rw e (omega (arith, root-sides)))
+      (λ d. rw (ne-eqb x r d) (product-le (U x) (U (p x)) (l x) (A x) (B x) (near x h d .0) (near x h d .1)))
+
+  -- weak duality: a potential within the lengths
+  pub tree-weak : Near → sum n (λ y. U y * m y) ≤ sum n (λ y. U y * v y) + flowCost n r p l m v
+  tree-weak near = omega (arith, left-sum, right-sum, m-parts, v-parts, sum-le n left right (left-le-right near))
+
+  -- strong duality: a potential that is tight where there is a flow, free where there is none
+  pub tree-tight : ((x : ℕ) → x < n → (x ≡ r → ⊥) → Tight (U x) (U (p x)) (l x) (subtotal p n m x) (subtotal p n v x))
       → sum n (λ y. U y * m y) ≡ sum n (λ y. U y * v y) + flowCost n r p l m v
   unfolding left right A B
-  tree-strong agrees = omega (arith, left-sum, right-sum, m-parts, v-parts, sum-ext n left right at)
+  tree-tight tight = omega (arith, left-sum, right-sum, m-parts, v-parts, sum-ext n left right at)
     where
       at : (x : ℕ) → x < n → left x ≡ right x
       at x h =
           case≡ x r
           (λ e. rw e root-sides)
-          (λ d. rw (ne-eqb x r d) (product-eq (U x) (U (p x)) (l x) (A x) (B x) (agrees x h d)))
+          (λ d. rw (ne-eqb x r d) (product-tight (U x) (U (p x)) (l x) (A x) (B x) (tight x h d)))
 
--- ---- every tree has a potential that agrees with its flow
+  pub tree-strong : ((x : ℕ) → x < n → (x ≡ r → ⊥) → Agrees (U x) (U (p x)) (l x) (subtotal p n m x) (subtotal p n v x))
+      → sum n (λ y. U y * m y) ≡ sum n (λ y. U y * v y) + flowCost n r p l m v
+  tree-strong agrees = tree-tight (λ x h d. agrees-tight (U x) (U (p x)) (l x) _ _ (agrees x h d))
 
--- an edge that the flow climbs raises the potential
+  -- and only such a one: within the lengths, and of the tree's cost, it is tight where there is a flow
+  pub tight-tree : Near → sum n (λ y. U y * m y) ≡ sum n (λ y. U y * v y) + flowCost n r p l m v
+      → (x : ℕ) → x < n → (x ≡ r → ⊥) → Tight (U x) (U (p x)) (l x) (subtotal p n m x) (subtotal p n v x)
+  unfolding left right A B
+  tight-tree near e x h d =
+      tight-product (U x) (U (p x)) (l x) (A x) (B x)
+      (let z = sum-equal n left right (left-le-right near) (omega (arith, left-sum, right-sum, m-parts, v-parts, e)) x h in rw (ne-eqb x r d) at z)
+
+-- ---- every tree has a potential that agrees with its flow; it is not the document's, which is flat where nothing flows
+
+-- an edge that the flow climbs, or that has none, raises the potential
 abbrev climbs : (n : ℕ) (p m v : ℕ → ℕ) → ℕ → Bool
 climbs n p m v x = leb (subtotal p n v x) (subtotal p n m x)
 

@@ -1,6 +1,6 @@
 -- The figures of a tree in natural numbers: the imbalance is a difference of two sums, the cost is that of the flow, and the potential is what
 -- it rises by above a vertex less what it falls by. So they follow from tables.
-use Prim.Native.Nat.{ℕ, _+_, _*_, _^_, _≤_, _<_}
+use Prim.Native.Nat.{ℕ, zero, suc, _+_, _*_, _^_, _≤_, _<_}
 use mathlib.Core.Path.{_≡_, refl, sym, ap, _∙_}
 use mathlib.Core.Bool.{Bool, true, false, not, _&&_}
 use native.Mathlib.Nat.{mul-le-mul, mul-le-mul-right}
@@ -42,7 +42,8 @@ treeCost-flow g r p mu nu =
     (ap natAbs (imbalance-sub (g .n) p mu nu x) ∙ abs-sub (subtotal p (g .n) mu x) (subtotal p (g .n) nu x)))
 
 sign-length : (z : ℤ) (l : ℕ) → sign z *ℤ pos l ≡ subℕ (pick (rises z) l) (pick (falls z) l)
-sign-length (pos k) l = let e : 1 * l ≡ l = omega arith in rw e (sym (sub-zero l))
+sign-length (pos zero) l = let e : 0 * l ≡ 0 = omega arith in rw e (sym (sub-zero 0))
+sign-length (pos (suc k)) l = let e : 1 * l ≡ l = omega arith in rw e (sym (sub-zero l))
 sign-length (negsuc k) l = let e : 1 * l ≡ l = omega arith in rw e (sym (zero-sub l))
 
 pickℤ-and : (s t : Bool) (u v : ℕ) → pickℤ (s && t) (subℕ u v) ≡ subℕ (pick t (pick s u)) (pick t (pick s v))
@@ -50,7 +51,7 @@ pickℤ-and true t u v = pickℤ-sub t u v
 pickℤ-and false true u v = refl
 pickℤ-and false false u v = refl
 
-potential-sub : (g : Graph) (r : ℕ) (p mu nu : ℕ → ℕ) (y : ℕ)
+pub potential-sub : (g : Graph) (r : ℕ) (p mu nu : ℕ → ℕ) (y : ℕ)
     → potential g r p mu nu y ≡ potentialFrom (g .n) r p (toParent g p) (imbalance (g .n) p mu nu) y
 unfolding potential
 potential-sub g r p mu nu y =

@@ -1,6 +1,6 @@
 -- The figures of a tree from tables: n vertices, the root r and parents p, a length l above each vertex, the masses a and b of mu and nu
 -- below it, and its imbalance z.
-use Prim.Native.Nat.{ℕ, _*_, _^_, _<_}
+use Prim.Native.Nat.{ℕ, zero, suc, _*_, _^_, _<_}
 use mathlib.Core.Path.{_≡_}
 use mathlib.Core.Bool.{Bool, true, false}
 use mathlib.Core.List.{List}
@@ -32,7 +32,8 @@ costFrom n r l a b = sum n (λ x. inner r x (l x * gap (a x) (b x)))
 
 -- the sign of an imbalance is +1,
 abbrev pub rises : ℤ → Bool
-rises (pos k) = true
+rises (pos zero) = false
+rises (pos (suc k)) = true
 rises (negsuc k) = false
 
 -- and -1

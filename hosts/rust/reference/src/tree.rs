@@ -48,15 +48,6 @@ pub fn told(n: usize, root: usize, parents: &[u32], v: usize) -> (u32, u32, u64)
     (tree.depth(v) as u32, tree.parents[v] as u32, word)
 }
 
-/// +1 where the imbalance is zero or more, −1 where it is less.
-fn sign(imbalance: i64) -> i64 {
-    if imbalance >= 0 {
-        1
-    } else {
-        -1
-    }
-}
-
 /// For each vertex those below it.
 fn below(n: usize, tree: &Tree) -> Vec<Vec<usize>> {
     (0..n)
@@ -92,7 +83,7 @@ pub fn evaluate(problem: &Problem, tree: &Tree) -> Evaluation {
     let imbalance = imbalance(problem, &below);
     let mut potential = vec![0; n];
     for x in (0..n).filter(|&x| x != tree.root) {
-        let rise = sign(imbalance[x]) * length_up(problem, tree, x) as i64;
+        let rise = imbalance[x].signum() * length_up(problem, tree, x) as i64;
         below[x].iter().for_each(|&y| potential[y] += rise);
     }
     let plan = plan(problem, tree, &below);

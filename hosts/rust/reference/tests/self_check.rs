@@ -45,9 +45,36 @@ fn cases_b_and_c() {
     assert_eq!(least_tree_cost(&b), 4);
 
     let c = Problem::new(4, &RING, &[1; 4], &[1; 4]).with_tree(0, &[0, 0, 1, 2]);
-    assert_eq!(weigh(&c).potential, [0, 1, 2, 3]);
+    assert_eq!(weigh(&c).potential, [0, 0, 0, 0]);
     assert_eq!(weigh(&c).cost, 0);
     assert_eq!(least_tree_cost(&c), 0);
+}
+
+/// A best tree whose own potential falls along edge (0, 2) by more than its length.
+#[test]
+fn own_potential() {
+    let edges = [(0, 1, 2), (0, 2, 1), (1, 2, 3)];
+    let given = Problem::new(3, &edges, &[1, 0, 0], &[0, 1, 0]).with_tree(0, &[0, 0, 1]);
+    let e = weigh(&given);
+    assert_eq!((e.imbalance, e.potential), (vec![0, -1, 0], vec![0, -2, -2]));
+    assert_eq!((e.cost, least_tree_cost(&given)), (2, 2));
+}
+
+/// Equal measures give every tree a flat potential; and a good part of the drawn trees' edges carries nothing.
+#[test]
+fn flat_where_nothing_moves() {
+    let random = &mut Random::new(1);
+    let (mut edges, mut idle) = (0, 0);
+    for _ in 0..300 {
+        let mut problem = random::problem(random);
+        let tree = random::spanning_tree(random, problem.n, &problem.edges);
+        let imbalance = evaluate(&problem, &tree).imbalance;
+        edges += problem.n - 1;
+        idle += imbalance.iter().filter(|&&z| z == 0).count() - 1;
+        problem.nu.clone_from(&problem.mu);
+        assert!(evaluate(&problem, &tree).potential.iter().all(|&u| u == 0));
+    }
+    assert!(10 * idle > 3 * edges && 10 * idle < 8 * edges, "{idle} of {edges}");
 }
 
 #[test]

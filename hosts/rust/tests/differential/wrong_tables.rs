@@ -168,7 +168,7 @@ fn caught(call: Call, count: u64, make: Make) -> u64 {
 type SpoilJob = fn(&Problem, &mut Job);
 
 /// Spoils of answers, each of one kind of call.
-const ANSWERS: [(&str, Call, SpoilJob); 18] = [
+const ANSWERS: [(&str, Call, SpoilJob); 19] = [
     (
         "edges as they are, no way round",
         Call::Distances,
@@ -209,11 +209,12 @@ const ANSWERS: [(&str, Call, SpoilJob); 18] = [
         let own: Vec<i64> = (0..p.n).map(|x| p.difference(x)).collect();
         replace(&mut job.imbalance, &own, |x| x as i32)
     }),
-    (
-        "flat where nothing moves",
-        Call::Evaluate,
-        flat_where_nothing_moves,
-    ),
+    ("rising where nothing moves", Call::Evaluate, |p, job| {
+        slope_where_nothing_moves(p, job, 1)
+    }),
+    ("falling where nothing moves", Call::Evaluate, |p, job| {
+        slope_where_nothing_moves(p, job, -1)
+    }),
     ("cost of the best", Call::Evaluate, |p, job| {
         *job.cost.one() = least_cost(p)
     }),
@@ -255,12 +256,15 @@ fn distances_without_seams(problem: &Problem, job: &mut Job) {
     }
 }
 
-/// The potential with a sign of 0 for an imbalance of 0.
-fn flat_where_nothing_moves(problem: &Problem, job: &mut Job) {
+/// The potential with another sign than 0 for an imbalance of 0.
+fn slope_where_nothing_moves(problem: &Problem, job: &mut Job, slope: i64) {
     let tree = problem.tree.as_ref().expect("a tree");
     let mut potential = vec![0; problem.n];
     for x in (0..problem.n).filter(|&x| x != tree.root) {
-        let sign = i64::from(job.imbalance.content()[x]).signum();
+        let sign = match i64::from(job.imbalance.content()[x]).signum() {
+            0 => slope,
+            sign => sign,
+        };
         let length = problem.length(x, tree.parents[x]).expect("an edge") as i64;
         let below = (0..problem.n).filter(|&y| tree.is_below(y, x));
         below.for_each(|y| potential[y] += sign * length);

@@ -16,7 +16,7 @@ difference mu nu x = subℕ (mu x) (nu x)
 unfoldable pub imbalance : ℕ → (ℕ → ℕ) → (ℕ → ℕ) → (ℕ → ℕ) → ℕ → ℤ
 imbalance n p mu nu x = sumℤ n (λ y. pickℤ (below p n y x) (difference mu nu y))
 
--- "Sign: +1 where Ξ is ... more, −1 where it is less"; document 02, W-202: "the sign of 0 is 0"
+-- Sign: +1 where Ξ is more than 0, −1 "where it is less", and, by document 02, W-202, "the sign of 0 is 0"
 abbrev pub sign : ℤ → ℤ
 sign (pos zero) = pos 0
 sign (pos (suc k)) = pos 1

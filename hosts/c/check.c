@@ -1,6 +1,6 @@
 /* What the header promises and the example does not show: tables between guard places, every refusal number of every call with all
- * tables as lent, empty tables without an address, images at odd addresses, the writer of images, damaged trees, and the stack that
- * a call uses.
+ * tables as lent, empty tables without an address, images at odd addresses, the writer of images, damaged trees, climbs in any order
+ * on any words, and the stack that a call uses.
  * A line for each group, and "N passed, M failed" last. */
 #define _POSIX_C_SOURCE 200112L
 #include "mover.h"
@@ -178,6 +178,14 @@ static void check_is_optimal(const problem *p) {
     expect(optimal == 0, "result 0", "mover_is_optimal", number);
 }
 
+/* A climb from the last vertex, in a table that lacks so many words. */
+static void check_mark_ancestors(const problem *p, size_t lacks, uint32_t wanted) {
+  lent masks;
+  size_t written = 8 * p->n;
+  uint32_t number = mover_mark_ancestors(p->n, p->root, p->parents, p->parents_len, p->n - 1, (uint64_t *)lend(&masks), p->n - lacks);
+  expect_outcome("mover_mark_ancestors", p, number, wanted, &masks, &written, 1);
+}
+
 static void check_problem(const problem *p) {
   size_t k;
   problem longer = *p;
@@ -185,7 +193,9 @@ static void check_problem(const problem *p) {
   check_evaluate(p, 3, p->number);
   check_solve(p, 3, up_to(p->number, 7));
   check_is_optimal(p);
+  check_mark_ancestors(p, 0, p->number == 1 || p->number == 8 || p->number == 10 ? p->number : 0); /* no edges, no amounts */
   if (p->number != 0) return;
+  check_mark_ancestors(p, 1, 2);
   for (k = 0; k < 3; k++) {
     check_evaluate(p, k, 2);
     check_solve(p, k, 2);
@@ -205,6 +215,7 @@ static void check_problem(const problem *p) {
   check_evaluate(&longer, 3, 2);
   check_solve(&longer, 3, 0);
   check_is_optimal(&longer);
+  check_mark_ancestors(&longer, 0, 2);
 }
 
 /* Figures of case A and B, and tables that are longer than is asked. */
@@ -250,6 +261,8 @@ static void check_empty(void) {
   expect(mover_distances(0, NULL, 0, NULL, 0, NULL, 0, NULL, 0) == 1, "nothing at all", "mover_distances", 0);
   expect(mover_evaluate(0, NULL, 0, NULL, 0, NULL, 0, NULL, 0, NULL, 0, 0, NULL, 0, NULL, 0, NULL, 0, NULL, 0, &cost, &moves) == 1,
          "nothing at all", "mover_evaluate", 0);
+  expect(mover_mark_ancestors(0, 0, NULL, 0, 0, NULL, 0) == 1, "nothing at all", "mover_mark_ancestors", 0);
+  expect(mover_mark_ancestors(1, 0, NULL, 0, 0, NULL, 0) == 2, "no parents, no words", "mover_mark_ancestors", 0);
   expect(mover_run(NULL, 0, NULL, 0) == 11, "nothing at all", "mover_run", 0);
   tree = mover_tree_new(3, 1, NULL, 0);
   expect(tree.n == 3 && tree.root == 1 && tree.parents[2] == 0 && mover_tree_parent(tree, 1) == 64, "no parents", "mover_tree_new", 0);
@@ -410,6 +423,143 @@ static void check_trees(void) {
   expect_unknown("more vertices than a number holds", mover_tree_new(SIZE_MAX, SIZE_MAX, line, 65), 0);
 }
 
+/* ---- climbs */
+
+/* A generator of numbers (SplitMix64), from the same seed in every run. */
+static uint64_t draw(void) {
+  static uint64_t state = 204;
+  uint64_t z = state += 0x9e3779b97f4a7c15u;
+  z = (z ^ z >> 30) * 0xbf58476d1ce4e5b9u;
+  z = (z ^ z >> 27) * 0x94d049bb133111ebu;
+  return z ^ z >> 31;
+}
+
+static size_t draw_below(size_t bound) {
+  return (size_t)(draw() % bound);
+}
+
+/* The numbers below n in any order. */
+static void draw_order(size_t n, uint32_t *order) {
+  size_t i, j;
+  for (i = 0; i < n; i++) {
+    j = draw_below(i + 1);
+    order[i] = order[j];
+    order[j] = (uint32_t)i;
+  }
+}
+
+/* The parents of a line, a star or any tree, its vertices in any order; returns the root. */
+static size_t draw_tree(size_t n, uint32_t *parents) {
+  uint32_t order[64];
+  size_t shape = draw_below(4), i;
+  draw_order(n, order);
+  parents[order[0]] = order[0];
+  for (i = 1; i < n; i++) parents[order[i]] = order[shape == 0 ? i - 1 : shape == 1 ? 0 : draw_below(i)];
+  return order[0];
+}
+
+/* Sets y's bit where it belongs: x after x on the way up from y. */
+static void climb(size_t root, const uint32_t *parents, size_t y, uint64_t *words) {
+  size_t x = y;
+  words[x] |= (uint64_t)1 << y;
+  while (x != root) {
+    x = parents[x];
+    words[x] |= (uint64_t)1 << y;
+  }
+}
+
+/* One climb, after which all of the block is as it is to be. */
+static void check_climb(size_t n, size_t root, const uint32_t *parents, size_t y, lent *table, size_t room, const lent *wanted) {
+  uint64_t *masks = table->block + GUARD / 8;
+  uint32_t number = mover_mark_ancestors(n, root, parents, n, y, masks, room);
+  expect(number == MOVER_OK, "a climb", "mover_mark_ancestors", number);
+  expect(!memcmp(table, wanted, sizeof *table), "the words after a climb", "from vertex", (unsigned)y);
+}
+
+/* Climbs from all vertices of a tree in any order, and again from some, and from what is no vertex. On words of 0 they gather the
+ * subtrees, on others they add to what is there. */
+static void check_climbs_of(size_t n, int on_zeros) {
+  static lent table, wanted;
+  uint32_t parents[64], order[64];
+  size_t root = draw_tree(n, parents), room = n + draw_below(3), beyond[5], i, x;
+  uint64_t *masks = (uint64_t *)lend(&table), *words = wanted.block + GUARD / 8;
+  mover_tree tree = mover_tree_new(n, root, parents, n);
+  for (x = 0; x < n; x++) masks[x] = on_zeros ? 0 : draw();
+  memcpy(&wanted, &table, sizeof table);
+  beyond[0] = n;
+  beyond[1] = n + 1;
+  beyond[2] = 64;
+  beyond[3] = n + 64;
+  beyond[4] = SIZE_MAX;
+  for (i = 0; i < 5; i++) check_climb(n, root, parents, beyond[i], &table, room, &wanted);
+  draw_order(n, order);
+  for (i = 0; i < n; i++) {
+    climb(root, parents, order[i], words);
+    check_climb(n, root, parents, order[i], &table, room, &wanted);
+    check_climb(n, root, parents, order[draw_below(i + 1)], &table, room, &wanted);
+  }
+  if (!on_zeros) return;
+  for (x = 0; x < n; x++) expect(masks[x] == mover_tree_subtree(tree, x), "the vertices below", "vertex", (unsigned)x);
+}
+
+/* What is accepted and what is refused, from whichever vertex; of two faults the first gives the number. */
+static void check_refused_climbs(void) {
+  static const struct given {
+    const char *name;
+    uint32_t number;
+    size_t n, root, parents_len, masks_len;
+    uint32_t parents[V];
+  } given[] = {
+      {"a tree", 0, 4, 3, 4, 4, {1, 2, 3, 3}},
+      {"a tree, more words", 0, 4, 3, 4, 70, {1, 2, 3, 3}},
+      {"no vertex", 1, 0, 0, 0, 4, {0}},
+      {"65 vertices", 1, 65, 0, 65, 65, {0}},
+      {"SIZE_MAX vertices", 1, SIZE_MAX, 3, 4, 4, {1, 2, 3, 3}},
+      {"parents short", 2, 4, 3, 3, 4, {1, 2, 3, 3}},
+      {"parents long", 2, 4, 3, 5, 4, {1, 2, 3, 3, 3}},
+      {"words short", 2, 4, 3, 4, 3, {1, 2, 3, 3}},
+      {"no words", 2, 4, 3, 4, 0, {1, 2, 3, 3}},
+      {"root n", 8, 4, 4, 4, 4, {1, 2, 3, 3}},
+      {"root SIZE_MAX", 8, 4, SIZE_MAX, 4, 4, {1, 2, 3, 3}},
+      {"a parent n", 8, 4, 3, 4, 4, {1, 4, 3, 3}},
+      {"a parent UINT32_MAX", 8, 4, 3, 4, 4, {1, UINT32_MAX, 3, 3}},
+      {"the root's parent another", 8, 4, 3, 4, 4, {1, 2, 3, 2}},
+      {"a second vertex its own parent", 8, 4, 3, 4, 4, {1, 1, 3, 3}},
+      {"a cycle of two", 10, 4, 3, 4, 4, {1, 0, 3, 3}},
+      {"a cycle of three", 10, 4, 3, 4, 4, {1, 2, 0, 3}},
+      {"1 and 2", 1, 0, 0, 4, 4, {1, 2, 3, 3}},
+      {"1 and 2, 65 vertices", 1, 65, 3, 4, 4, {1, 2, 3, 3}},
+      {"1 and 8", 1, 65, 65, 65, 65, {0}},
+      {"1 and 10", 1, 65, 0, 65, 65, {0, 2, 1}},
+      {"2 and 8, parents long", 2, 4, 4, 5, 4, {1, 2, 3, 3, 3}},
+      {"2 and 8, words short", 2, 4, 3, 4, 3, {1, 1, 3, 3}},
+      {"2 and 10, parents short", 2, 4, 2, 3, 4, {1, 0, 2}},
+      {"2 and 10, words short", 2, 4, 3, 4, 3, {1, 0, 3, 3}},
+      {"8 and 10, a parent n", 8, 4, 3, 4, 4, {1, 0, 4, 3}},
+      {"8 and 10, the root's parent another", 8, 4, 3, 4, 4, {1, 0, 3, 2}},
+      {"8 and 10, a second vertex its own parent", 8, 4, 3, 4, 4, {1, 0, 2, 3}},
+  };
+  static const size_t from[6] = {0, 1, 3, 4, 64, SIZE_MAX};
+  lent table;
+  size_t k, i;
+  for (k = 0; k < sizeof given / sizeof given[0]; k++) {
+    const struct given *g = &given[k];
+    for (i = 0; i < 6; i++) {
+      uint64_t *masks = (uint64_t *)lend(&table);
+      uint32_t number = mover_mark_ancestors(g->n, g->root, g->parents, g->parents_len, from[i], masks, g->masks_len);
+      expect(number == g->number, g->name, "mover_mark_ancestors", number);
+      expect(kept_past(&table, number == MOVER_OK && from[i] < g->n ? 8 * g->n : 0), "the words' guards", g->name, number);
+    }
+  }
+}
+
+static void check_climbs(void) {
+  size_t n, k;
+  for (n = 1; n <= 64; n++)
+    for (k = 0; k < 6; k++) check_climbs_of(n, k % 2 == 0);
+  check_refused_climbs();
+}
+
 static void check_texts(void) {
   uint32_t k, l;
   for (k = 0; k < 14; k++)
@@ -478,6 +628,11 @@ static uint32_t call_solve(void) {
                      patch.plan, 4096, &cost, &moves);
 }
 
+static uint32_t call_mark_ancestors(void) {
+  static uint64_t masks[64];
+  return mover_mark_ancestors(64, 0, patch.parents, 64, 63, masks, 64);
+}
+
 static uint32_t call_read(void) {
   static uint32_t a[512], b[512], lengths[512], parents[64];
   static uint64_t mu[64], nu[64];
@@ -510,6 +665,7 @@ static const struct use {
     {"mover_evaluate", call_evaluate, MOVER_STACK_EVALUATE},
     {"mover_is_optimal", call_is_optimal, MOVER_STACK_IS_OPTIMAL},
     {"mover_solve", call_solve, MOVER_STACK_SOLVE},
+    {"mover_mark_ancestors", call_mark_ancestors, MOVER_STACK_MARK_ANCESTORS},
     {"mover_read", call_read, MOVER_STACK_READ},
     {"mover_tree_...", call_tree, MOVER_STACK_TREE},
     {"mover_run", call_run, MOVER_STACK_RUN},
@@ -595,7 +751,8 @@ int main(void) {
   } groups[] = {
       {"accepted and refused problems", check_problems}, {"figures and long tables", check_figures}, {"empty tables", check_empty},
       {"the reader", check_reader},                      {"the entry", check_run},                   {"the writer of images", check_writer},
-      {"trees", check_trees},                            {"texts", check_texts},                     {"stack", check_stack},
+      {"trees", check_trees},                            {"climbs", check_climbs},                   {"texts", check_texts},
+      {"stack", check_stack},
   };
   unsigned passed = 0, failed = 0;
   size_t k;

@@ -1,5 +1,5 @@
-/* Every call on one patch: distances, the best answer, a given tree and whether it is best, the tree's methods, the same by an image,
- * and a refusal. */
+/* Every call on one patch: distances, the best answer, a given tree and whether it is best, the tree's methods, climbs up it, the same
+ * by an image, and a refusal. */
 #include "mover.h"
 
 #include <inttypes.h>
@@ -106,6 +106,22 @@ static void methods(void) {
            mover_tree_subtree(tree, x));
 }
 
+/* The vertices below each vertex again, gathered by a climb from each, the last one first. */
+static void climbs(void) {
+  uint64_t masks[N] = {0};
+  size_t x, y;
+  for (y = N; y-- > 0;) {
+    uint32_t number = mover_mark_ancestors(N, 0, chain, N, y, masks, N);
+    if (number != MOVER_OK) {
+      refused(number);
+      return;
+    }
+  }
+  printf("  by climbs:");
+  for (x = 0; x < N; x++) printf(" 0x%02" PRIx64, masks[x]);
+  printf("\n");
+}
+
 /* Writes an image with the chain, reads it back and runs it. */
 static void by_image(void) {
   uint8_t image[MOVER_IMAGE_SIZE(N, M) + N + 1], record[MOVER_RECORD_SIZE(N)];
@@ -147,6 +163,7 @@ int main(void) {
   printf("a given tree\n");
   given_tree();
   methods();
+  climbs();
   printf("the same by an image\n");
   by_image();
   printf("unequal totals\n");

@@ -48,9 +48,10 @@
 #define MOVER_THREAD_STACK 65536
 #define MOVER_STACK_DISTANCES 8192
 #define MOVER_STACK_DISTANCES_OF_RECORDS 20480
-#define MOVER_STACK_EVALUATE 12288
+#define MOVER_STACK_EVALUATE 16384
 #define MOVER_STACK_IS_OPTIMAL 32768
 #define MOVER_STACK_SOLVE 16384
+#define MOVER_STACK_MARK_ANCESTORS 8192
 #define MOVER_STACK_READ 8192
 #define MOVER_STACK_TREE 8192 /* each of mover_tree_new, _depth, _parent, _subtree */
 #define MOVER_STACK_RUN 40960
@@ -164,6 +165,17 @@ uint32_t mover_solve(size_t n, const uint32_t *a, size_t a_len, const uint32_t *
                      const uint64_t *nu, size_t nu_len, uint32_t *parents, size_t parents_len,
                      int32_t *potential, size_t potential_len, uint32_t *plan, size_t plan_len,
                      uint64_t *cost, uint32_t *moves);
+
+/* Climbs from vertex y of a tree up to its root: sets bit y in masks[x] for each x that y is below, and
+ * changes no other bit. y is below x if x is y or is met going from y up through the parents. A climb from
+ * each vertex, in any order, on words of 0 gives the words of mover_tree_subtree.
+ *
+ *   parents    n long; no edges are looked at
+ *   masks      at least n: a word for each vertex
+ *
+ * If y >= n, the checks run all the same, and nothing changes. Refuses by 1, 2, 8 and 10. */
+uint32_t mover_mark_ancestors(size_t n, size_t root, const uint32_t *parents, size_t parents_len, size_t y,
+                              uint64_t *masks, size_t masks_len);
 
 /* Reads an image, described below, into tables, and judges nothing but its form.
  *

@@ -129,6 +129,12 @@ def tree_figures(root: int, parents: List[int]) -> List[Entry]:
     return [(len(chains[x]) - 1, parents[x], words[x]) for x in range(n)]
 
 
+def marked(parents: List[int], y: int, words: List[int]) -> List[int]:
+    """The words with y's bit set in that of each vertex of its chain."""
+    met = chain(parents, y)
+    return [word | 1 << y if x in met else word for x, word in enumerate(words)]
+
+
 def faults(problem: Problem, best: Answer, apart: List[List[int]]) -> List[str]:
     """What does not hold of a best answer, of all that is asked of one."""
     n, u, table = problem.n, best.potential, best.table

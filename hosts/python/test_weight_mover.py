@@ -33,6 +33,7 @@ from reference import (
     Problem,
     entries,
     faults,
+    marked,
     moves,
     random_problem,
     random_tree,
@@ -219,6 +220,29 @@ class MarkedCases(unittest.TestCase):
             figures = wrong.depth(1), wrong.parent(1), wrong.subtree(1)
             self.assertEqual(figures, (0, 64, 0))
 
+    def test_mark_ancestors(self) -> None:
+        given = 4, 3, MARKED["A"].parents
+        full = 2**64 - 1
+        lent = [8, 0, full, 4, 6]
+        climbs = {
+            0: [9, 1, full, 5, 6],
+            1: [8, 2, full, 6, 6],
+            2: [8, 0, full, 4, 6],
+            3: [8, 0, full, 12, 6],
+        }
+        for y in (0, 1, 2, 3, 4, 5, 64, 65, full):
+            self.assertEqual(wm.mark_ancestors(*given, y, lent), climbs.get(y, lent))
+        self.assertEqual(lent, [8, 0, full, 4, 6])
+        line = [max(x - 1, 0) for x in range(64)]
+        self.assertEqual(wm.mark_ancestors(64, 0, line, 63, 64 * [0]), 64 * [2**63])
+        for name, case in MARKED.items():
+            with self.subTest(name):
+                n, tree = case.problem.n, wm.Tree(case.root, case.parents)
+                masks = [0] * n
+                for y in reversed(range(n)):
+                    masks = wm.mark_ancestors(n, case.root, case.parents, y, masks)
+                self.assertEqual(masks, [tree.subtree(x) for x in range(n)])
+
 
 # ---- Refusals
 
@@ -362,6 +386,47 @@ class Refusals(unittest.TestCase):
         self.refused(8, wm.evaluate, PATH, 3 * [0], 3 * [0], 9, 3 * [5])
         self.refused(9, wm.evaluate, PATH, 3 * [0], 3 * [0], 0, [0, 2, 0])
 
+    def test_climbs(self) -> None:
+        """The climb refuses by 1, 2, 8 and 10 in this order and keeps its table."""
+        line = [1, 2, 3, 3]
+        refused: List[Tuple[int, int, int, List[int], int]] = [
+            (1, 0, 0, [], 4),
+            (1, 65, 0, 65 * [0], 65),
+            (1, 2**64 - 1, 3, line, 4),
+            (2, 4, 3, line[:3], 4),
+            (2, 4, 3, line + [3], 4),
+            (2, 4, 3, line, 3),
+            (2, 4, 3, line, 0),
+            (8, 4, 4, line, 4),
+            (8, 4, 2**64 - 1, line, 4),
+            (8, 4, 3, [1, 4, 3, 3], 4),
+            (8, 4, 3, [1, 2**32 - 1, 3, 3], 4),
+            (8, 4, 3, [1, 2, 3, 2], 4),
+            (8, 4, 3, [1, 1, 3, 3], 4),
+            (10, 4, 3, [1, 0, 3, 3], 4),
+            (10, 4, 3, [1, 2, 0, 3], 5),
+            # two checks fail
+            (1, 0, 0, line, 4),
+            (1, 65, 3, line, 4),
+            (1, 65, 65, 65 * [0], 65),
+            (1, 65, 0, [0, 2, 1] + 62 * [0], 65),
+            (2, 4, 4, line + [3], 4),
+            (2, 4, 3, [1, 1, 3, 3], 3),
+            (2, 4, 2, [1, 0, 2], 4),
+            (2, 4, 3, [1, 0, 3, 3], 3),
+            (8, 4, 3, [1, 0, 4, 3], 4),
+            (8, 4, 3, [1, 0, 3, 2], 4),
+            (8, 4, 3, [1, 0, 2, 3], 4),
+        ]
+        for number, n, root, parents, places in refused:
+            for y in (0, 1, 3, 4, 64, 2**64 - 1):
+                lent = list(range(9, 9 + places))
+                self.refused(number, wm.mark_ancestors, n, root, parents, y, lent)
+                tables = (ctypes.c_uint32 * len(parents))(*parents)
+                words = (ctypes.c_uint64 * places)(*lent)
+                got = wm._call("mover_mark_ancestors", n, root, tables, y, words)
+                self.assertEqual((got, list(words)), (number, lent))
+
     def test_exception(self) -> None:
         with self.assertRaises(ValueError) as caught:
             wm.solve([], [3], [4])
@@ -458,6 +523,8 @@ class Inputs(unittest.TestCase):
             rows = (kind(list(edge)) for edge in edges)
             got = wm.evaluate(rows, kind(mu), kind(nu), 3, kind([1, 2, 3, 3]))
             self.assertEqual(got.cost, wanted)
+            masks = wm.mark_ancestors(4, 3, kind([1, 2, 3, 3]), 1, kind([0, 0, 0, 8]))
+            self.assertEqual(masks, [0, 2, 2, 10])
         columns: Any = memoryview(bytes(sum(edges, ()))).cast("B", [len(edges), 3])
         self.assertEqual(wm.solve(columns, mu, nu).cost, wanted)
         image = wm.write(edges, mu, nu)
@@ -493,6 +560,11 @@ class Inputs(unittest.TestCase):
             ("v", tree.parent, u64),
             ("v", tree.subtree, u64),
             ("v", tree.below, u64),
+            ("n", lambda x: wm.mark_ancestors(x, 0, [0, 0], 1, [0, 0]), u64),
+            ("root", lambda x: wm.mark_ancestors(2, x, [0, 0], 1, [0, 0]), u64),
+            ("parent", lambda x: wm.mark_ancestors(2, 0, [0, x], 1, [0, 0]), u32),
+            ("y", lambda x: wm.mark_ancestors(2, 0, [0, 0], x, [0, 0]), u64),
+            ("mask", lambda x: wm.mark_ancestors(2, 0, [0, 0], 1, [0, x]), u64),
             ("end in an image", lambda x: wm.write([(0, x, 1)], mu, nu), 255),
             ("length in an image", lambda x: wm.write([(0, 1, x)], mu, nu), 65_535),
             ("mu in an image", lambda x: wm.write(edges, [x, 0], nu), u32),
@@ -525,6 +597,8 @@ class Inputs(unittest.TestCase):
             (wm.solve, (two[0], {0: 1, 1: 0}, two[2])),
             (wm.solve, (*two[:2], {0, 1})),
             (wm.evaluate, (*two, 0, {0: 0, 1: 0})),
+            (wm.mark_ancestors, (2, 0, [0, 0], 1, 0)),
+            (wm.mark_ancestors, (2, 0, [0, 0], 1, {0: 0, 1: 0})),
             (wm.run, (36,)),
             (wm.run, ("image",)),
             (wm.read, (array.array("I", range(20)),)),
@@ -552,6 +626,8 @@ class Inputs(unittest.TestCase):
             self.assertEqual(wm.distances(np.int64(4), columns)[0], [0, 2, 5, 6])
             self.assertEqual(wm.distances_of_records(4, columns)[0], [0, 2, 5, 6])
             self.assertEqual(wm.Tree(*tree).depth(parents[0]), 2)
+            masks = wm.mark_ancestors(4, *tree, parents[0], np.zeros(4, dtype=kind))
+            self.assertEqual(masks, [0, 2, 2, 2])
             image = wm.write(columns, *paintings, *tree)
             self.assertEqual(image, wm.write(*case.problem, 3, case.parents))
             self.assertEqual(wm.run(np.frombuffer(image, dtype="u1")).cost, case.cost)
@@ -670,6 +746,26 @@ class ByDefinition(unittest.TestCase):
                 self.assertEqual(got, wanted[v] if v < n else (0, 64, 0), name)
         self.assertGreater(damaged, CASES // 20)
 
+    def test_mark_ancestors(self) -> None:
+        """Climbs from all vertices in any order, on words of 0 and on others."""
+        for name, draw, problem in problems("climbs", CASES // 5):
+            n, (root, parents) = problem.n, random_tree(draw, problem)
+            zeros = draw.random() < 0.5
+            words = [0 if zeros else draw.getrandbits(64) for _ in range(n)]
+            rest = [draw.getrandbits(64) for _ in range(draw.choice([0, 0, 1, 9]))]
+            masks, order = words + rest, draw.sample(range(n), n)
+            for place, y in enumerate(order):
+                words = marked(parents, y, words)
+                again = draw.choice(order[: place + 1])
+                beyond = draw.choice([n, n + 1, 64, order[-1] + 64, 2**64 - 1])
+                for vertex in (y, again, beyond):
+                    masks = wm.mark_ancestors(n, root, parents, vertex, masks)
+                    self.assertEqual(masks, words + rest, name)
+            if zeros:
+                figures, tree = tree_figures(root, parents), wm.Tree(root, parents)
+                self.assertEqual(masks[:n], [word for _, _, word in figures], name)
+                self.assertEqual(masks[:n], [tree.subtree(x) for x in range(n)], name)
+
 
 class WrongAnswers(unittest.TestCase):
     """Answers that are spoiled on purpose: the tests above would notice."""
@@ -716,6 +812,8 @@ class WrongAnswers(unittest.TestCase):
             (ByDefinition, "evaluate", at_end),
             (MarkedCases, "is_optimal", [(-1, 0)]),
             (MarkedCases, "distances", [(-1, -1)]),
+            (MarkedCases, "mark_ancestors", [(-1, 0), (-1, -1)]),
+            (ByDefinition, "mark_ancestors", [(-1, 0), (-1, -1)]),
             (MarkedCases, "run", record),
             (MarkedCases, "read", lists),
         ]

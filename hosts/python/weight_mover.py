@@ -65,6 +65,7 @@ __all__ = [
     "distances_of_records",
     "evaluate",
     "is_optimal",
+    "mark_ancestors",
     "read",
     "refusal_text",
     "run",
@@ -219,6 +220,7 @@ _SIGNATURES = {
     ),
     "mover_is_optimal": (c_uint32, _PROBLEM + _GIVEN_TREE + [POINTER(c_uint32)]),
     "mover_solve": (c_uint32, _PROBLEM + _U32S + _I32S + _U32S + _COST_AND_MOVES),
+    "mover_mark_ancestors": (c_uint32, [c_size_t] + _GIVEN_TREE + [c_size_t] + _U64S),
     "mover_read": (
         c_uint32,
         _BYTES + _EDGE_LISTS + 2 * _U64S + _U32S + _N_M_ROOT_TREE,
@@ -509,6 +511,35 @@ def is_optimal(
     problem, tree = _problem(edges, mu, nu), _given_tree(root, parents)
     _check("mover_is_optimal", *problem, *tree, byref(optimal))
     return optimal.value == 1
+
+
+def mark_ancestors(
+    n: SupportsIndex,
+    root: SupportsIndex,
+    parents: Numbers,
+    y: SupportsIndex,
+    masks: Numbers,
+) -> List[int]:
+    """The words `masks`, with bit y set in the word of each vertex that y is below.
+
+    A vertex is below itself and all that it meets going up through the parents. `masks`
+    has a word for each of n vertices, and may have more. All other bits come back as
+    they are, and all bits if y is not below n. A climb from each vertex, in any order,
+    from words of 0 on gives the words of `Tree.subtree`:
+
+    >>> masks = [0, 0, 0]
+    >>> for y in (2, 0, 1):
+    ...     masks = mark_ancestors(3, 1, [1, 1, 0], y, masks)
+    >>> masks
+    [5, 7, 4]
+
+    No edges are looked at. Refuses by 1, 2, 8 and 10.
+    """
+    count, vertex = _number(n, _U64, "n"), _number(y, _U64, "y")
+    tree = _given_tree(root, parents)
+    words = _array(c_uint64, _numbers(masks, _U64, "masks"))
+    _check("mover_mark_ancestors", count, *tree, vertex, words)
+    return list(words)
 
 
 # ---- Calls on images

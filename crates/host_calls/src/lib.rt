@@ -6,6 +6,7 @@ ghost use Rattle.given_tree.specs.Given.{given};
 ghost use Rattle.tree_evaluation.specs.Evaluate.{Evaluated};
 ghost use Rattle.optimal_transport.specs.Solve.{Solved};
 ghost use Rattle.optimality_test.specs.OptimalityTest.{OptimalityTested};
+ghost use Rattle.tree_walks.specs.MarkAncestors.{markRefusal, markTable};
 ghost use Rattle.image_reader.specs.Read.{Read, lists};
 ghost use Rattle.weight_mover.specs.Run.{Ran};
 
@@ -111,6 +112,21 @@ pub extern "C" fn mover_solve(
     *cost = solution.cost;
     *moves = solution.moves;
     solution.refusal
+}
+
+// Sets y's bit in the mask of each x that y is below, and changes no other bit.
+#[no_mangle]
+pub extern "C" fn mover_mark_ancestors(
+    n: usize,
+    root: usize,
+    parents: &[u32],
+    y: usize,
+    masks: &mut [u64],
+) -> u32
+    ensures { λ k. ⌜ (k ≡ markRefusal n root (now (parents .entry)) (now (masks .entry)))
+        × (now (masks .exit) ≡ markTable n root (now (parents .entry)) y (now (masks .entry))) ⌝ }
+{
+    tree_walks::mark_ancestors::mark_ancestors(n, root, parents, y, masks)
 }
 
 // Reads an image into lent lists: all of them, or none after a refusal.

@@ -1,7 +1,8 @@
-// Two machine numbers: the smaller, how far they are apart, and their differences.
+// Machine numbers: the smaller of two, how far they are apart, their differences, and one under a test.
 ghost use mathlib.Core.Path.{_≡_};
 ghost use Prim.Native.Nat.{_-_, _^_, _<_, min};
 ghost use lib.IntN.{subℕ};
+ghost use Rattle.arithmetic.specs.Sum.{pick};
 ghost use Rattle.arithmetic.specs.Steps.Product.{gap};
 
 // the smaller of a and b
@@ -31,4 +32,11 @@ pub fn difference(a: u64, b: u64) -> i32
     ensures { λ r. ⌜ r ≡ subℕ a b ⌝ }
 {
     a as i32 - b as i32
+}
+
+// v where the test holds, else 0
+pub fn pick(test: bool, v: u32) -> u32
+    ensures { λ r. ⌜ r ≡ pick test v ⌝ }
+{
+    if test { v } else { 0 }
 }

@@ -60,6 +60,7 @@ pub fn solve(
     let mut edge = [0u32; 64];
     let mut above = [0u32; 64];
     let mut u = [0u32; 64];
+    let mut masks = [0u64; 64];
     let mut imbalance = [0i32; 64];
     let room = given_tree::has_room(n, parents.len(), potential.len(), plan.len());
     let refusal = transport_problem::check(n, a, b, lengths, mu, nu, room, &mut first, &mut edge);
@@ -82,7 +83,7 @@ pub fn solve(
         &mut above,
         &mut u,
     );
-    let value = evaluate_tree(tree, &above, mu, nu, &mut imbalance, plan);
+    let value = evaluate_tree(tree, &above, mu, nu, &mut masks, &mut imbalance, plan);
     write_parents(tree, parents);
     write_potential(n, &u, potential);
     Evaluation {

@@ -24,9 +24,10 @@ fn cost_of(tree: Tree, above: &[u32], mu: &[u64], nu: &[u64]) -> u64
     requires { ⌜ CanCost (tree .n) (tree .root) (tree .parents) (now above) (now mu) (now nu) ⌝ }
     ensures { λ r. ⌜ CostOf (tree .n) (tree .root) (tree .parents) (now (above .entry)) (now (mu .entry)) (now (nu .entry)) r ⌝ }
 {
+    let mut masks = [0u64; 64];
     let mut imbalance = [0i32; 64];
     let mut plan = [0u32; 4096];
-    let value = evaluate_tree(tree, above, mu, nu, &mut imbalance, &mut plan);
+    let value = evaluate_tree(tree, above, mu, nu, &mut masks, &mut imbalance, &mut plan);
     value.cost
 }
 

@@ -5,9 +5,10 @@ ghost use lib.Dec.{eqb};
 ghost use Rattle.arithmetic.specs.Table.{at};
 ghost use Rattle.arithmetic.specs.Steps.Mask.{bit};
 ghost use Rattle.arithmetic.specs.Mask.{mask};
+ghost use Rattle.vertex_set.specs.Steps.Sets.{VertexSets, Depths};
 ghost use Rattle.plan_rule.specs.Steps.Taken.{taken};
 ghost use Rattle.plan_matching.specs.Steps.Residue.{residue, Consistent, Done};
-ghost use Rattle.plan_layers.specs.Steps.Layers.{VertexSets, Depths, setOf, takenByTables};
+ghost use Rattle.plan_layers.specs.Steps.Layers.{setOf, takenByTables};
 use plan_matching::match_subtree;
 
 // The vertices of a word, by rising number, each with its mask.
@@ -35,19 +36,6 @@ fn take_layer(
     }
 }
 
-// The vertices of each depth, as words.
-fn gather_layers(n: usize, depth: &[u32]) -> [u64; 65]
-    requires { ⌜ (n ≤ 64) × Depths n (now depth) ⌝ }
-    ensures { λ r. ⌜ ((d : ℕ) → d < 65 → at r d ≡ mask n (λ x. eqb (at (now (depth .entry)) x) d)) ⌝ }
-{
-    let mut layers = [0u64; 65];
-    for x in 0..n {
-        let d = depth[x] as usize;
-        layers[d] = layers[d] | (1u64 << x);
-    }
-    layers
-}
-
 // All vertices, by falling depth. Depth n, of chains that miss the root, is left out.
 pub fn take_layers(
     n: usize,
@@ -65,7 +53,7 @@ pub fn take_layers(
         (residue (now (senders .entry)) (now (receivers .entry)) (now (surplus .entry)) (now (deficit .entry))) (now (plan .entry))
         (residue (now (senders .exit)) (now (receivers .exit)) (now (surplus .exit)) (now (deficit .exit))) (now (plan .exit)) ⌝ }
 {
-    let vertices = gather_layers(n, depth);
+    let vertices = vertex_set::layers(n, depth);
     let mut done: usize = 0;
     while done < n {
         done += 1;

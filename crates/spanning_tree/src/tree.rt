@@ -76,7 +76,8 @@ impl Tree {
             return 0;
         }
         let parents = self.parents;
-        walk::depth_of(self.n, self.root, &parents, v)
+        let mut masks = [0u64; 64];
+        walk::walk_up(self.n, self.root, &parents, v, &mut masks)
     }
 
     // the parent of v
@@ -97,8 +98,9 @@ impl Tree {
             return 0;
         }
         let parents = self.parents;
+        let mut depths = [0u32; 64];
         let mut masks = [0u64; 64];
-        walk::subtree_masks(self.n, self.root, &parents, &mut masks);
+        walk::subtree_masks(self.n, self.root, &parents, &mut depths, &mut masks);
         masks[v]
     }
 }

@@ -1,3 +1,3 @@
 pub mod TreeTests
-pub mod ChainWalk
+pub mod Doubling
 pub mod Edges

@@ -1,2 +1,3 @@
 pub mod TreeTests
 pub mod ParentEdges
+pub mod Doubling

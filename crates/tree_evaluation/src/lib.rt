@@ -1,13 +1,18 @@
 // Evaluating a given tree, document 01's weighing.
 ghost use mathlib.Core.List.{List};
-ghost use Prim.Native.Nat.{ℕ};
+ghost use Prim.Native.Nat.{ℕ, _≤_};
+ghost use lib.ListN.{length};
 ghost use Rattle.arithmetic.specs.Table.{at};
+ghost use Rattle.arithmetic.specs.Mask.{mask};
+ghost use Rattle.arithmetic.specs.Steps.Fill.{Filled};
+ghost use Rattle.rooted_tree.specs.Chain.{below};
 ghost use Rattle.graph.specs.Graph.{graph};
 ghost use Rattle.given_tree.specs.Given.{given};
 ghost use Rattle.tree_evaluation.specs.Evaluate.{Evaluated};
 ghost use Rattle.tree_figures.specs.Steps.Tables.{LengthsTo};
 ghost use Rattle.tree_evaluation.specs.Steps.EvaluateTree.{Evaluable, TreeEvaluated};
 use spanning_tree::tree::Tree;
+use subtree_sums::subtree_tables;
 use transport_plan::tree_plan;
 
 // 0 or a refusal number, with the cost of the tree and the moves of its plan
@@ -23,17 +28,21 @@ pub struct TreeValue {
     pub moves: u32,
 }
 
-// Evaluates an accepted tree, on every graph whose lengths from a vertex to its parent are in `above`: fills in its imbalances and its plan.
+// Evaluates an accepted tree, on every graph whose lengths from a vertex to its parent are in `above`: fills in the words below its vertices,
+// gathered once for all that follows, its imbalances and its plan.
 pub fn evaluate_tree(
     tree: Tree,
     above: &[u32],
     mu: &[u64],
     nu: &[u64],
+    masks: &mut [u64],
     imbalance: &mut [i32],
     plan: &mut [u32],
 ) -> TreeValue
     requires { ⌜ Evaluable (tree .n) (tree .root) (tree .parents) (now above) (now mu) (now nu) (now imbalance) (now plan) ⌝ }
-    ensures { λ r. ⌜ ((a b lengths : List ℕ) → LengthsTo (graph (tree .n) a b lengths) (tree .root) (at (tree .parents)) (at (now (above .entry)))
+    requires room { ⌜ tree .n ≤ length (now masks) ⌝ }
+    ensures words { λ r. ⌜ Filled (tree .n) (λ x. mask (tree .n) (λ y. below (at (tree .parents)) (tree .n) y x)) (now (masks .entry)) (now (masks .exit)) ⌝ }
+    ensures figures { λ r. ⌜ ((a b lengths : List ℕ) → LengthsTo (graph (tree .n) a b lengths) (tree .root) (at (tree .parents)) (at (now (above .entry)))
         → TreeEvaluated (graph (tree .n) a b lengths) (tree .root) (at (tree .parents)) (at (now (mu .entry))) (at (now (nu .entry)))
         (now (imbalance .entry)) (now (plan .entry)) (r .cost) (r .moves) (now (imbalance .exit)) (now (plan .exit))) ⌝ }
 {
@@ -41,23 +50,22 @@ pub fn evaluate_tree(
     let root = tree.root;
     let parents = tree.parents;
     let mut depth = [0u32; 64];
-    let mut masks = [0u64; 64];
     let mut supply = [0u64; 64];
     let mut demand = [0u64; 64];
-    subtree_sums::subtree_tables(
+    subtree_tables(
         n,
         root,
         &parents,
         mu,
         nu,
         &mut depth,
-        &mut masks,
+        masks,
         &mut supply,
         &mut demand,
     );
     tree_figures::write_imbalance(n, &supply, &demand, imbalance);
     let cost = tree_figures::tree_cost(n, root, above, &supply, &demand);
-    let moves = tree_plan(tree, &depth, &masks, mu, nu, plan);
+    let moves = tree_plan(tree, &depth, masks, mu, nu, plan);
     TreeValue {
         cost: cost,
         moves: moves,
@@ -109,9 +117,9 @@ pub fn evaluate(
         };
     }
     let tree = Tree::new(n, root, parents);
-    let value = evaluate_tree(tree, &above, mu, nu, imbalance, plan);
-    let held = tree.parents;
-    tree_figures::write_potential(tree.n, tree.root, &held, &above, imbalance, potential);
+    let mut masks = [0u64; 64];
+    let value = evaluate_tree(tree, &above, mu, nu, &mut masks, imbalance, plan);
+    tree_figures::write_potential(tree.n, tree.root, &masks, &above, imbalance, potential);
     Evaluation {
         refusal: 0,
         cost: value.cost,

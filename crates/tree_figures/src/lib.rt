@@ -1,5 +1,5 @@
 // The figures of a tree: imbalance, cost and potential, from tables. `above` holds the length from each vertex to its parent, `supply` and
-// `demand` the masses of mu and nu below it.
+// `demand` the masses of mu and nu below it, `masks` the words of the vertices below each.
 ghost use mathlib.Core.Path.{_≡_};
 ghost use mathlib.Core.List.{_++_};
 ghost use Prim.Native.Nat.{_*_, _^_, _≤_, _<_};
@@ -7,13 +7,16 @@ ghost use lib.IntN.{pos, subℕ};
 ghost use lib.ListN.{length, drop, getD};
 ghost use lib.Signed.{mag};
 ghost use Rattle.arithmetic.specs.Sum.{pick};
+ghost use Rattle.arithmetic.specs.Steps.Fill.{Filled};
 ghost use Rattle.arithmetic.specs.Steps.Product.{gap};
 ghost use Rattle.arithmetic.specs.Table.{at, tab};
-ghost use Rattle.rooted_tree.specs.Steps.Rooted.{Rooted};
 ghost use Rattle.arithmetic.specs.Steps.Table.{EachBelow};
-ghost use Rattle.tree_figures.specs.Steps.Tables.{Short, Moderate, costFrom, rises, falls, potentialFrom};
+ghost use Rattle.vertex_set.specs.Steps.Sets.{VertexSets};
+ghost use Rattle.tree_figures.specs.Steps.Tables.{Short, Moderate, costFrom, rises, falls, slope, potentialFrom};
 use numbers::difference;
 use numbers::gap;
+use numbers::pick;
+use subtree_sums::word_heights;
 
 // the imbalance of each vertex
 pub fn write_imbalance(n: usize, supply: &[u64], demand: &[u64], out: &mut [i32])
@@ -68,59 +71,54 @@ fn falls(imbalance: &[i32], x: usize) -> bool
     imbalance[x] < 0
 }
 
-// a length that counts only where the test holds
-fn length_if(test: bool, l: u32) -> u64
-    ensures { λ r. ⌜ (r ≡ pick test l) × (r < 2 ^ 32) ⌝ }
-{
-    if test { l as u64 } else { 0 }
-}
-
-// the potential of y: the lengths above it along which it rises, less those along which it falls
-fn potential_at(
+// what the potential rises by to each vertex from its parent, and what it falls by: the length between them or 0, and 0 at the root
+fn write_slopes(
     n: usize,
     root: usize,
-    parents: &[u32],
     above: &[u32],
     imbalance: &[i32],
-    y: usize,
-) -> i32
-    requires { ⌜ (n ≤ 64) × (y < n) ⌝ }
-    requires long { ⌜ (n ≤ length (now parents)) × ((n ≤ length (now above)) × (n ≤ length (now imbalance))) ⌝ }
-    requires tree { ⌜ Rooted n root (at (now parents)) ⌝ }
-    requires lengths { ⌜ Short n root (at (now above)) × Moderate n (now imbalance) ⌝ }
-    ensures { λ r. ⌜ r ≡ potentialFrom n root (at (now (parents .entry))) (at (now (above .entry))) (λ x. getD (now (imbalance .entry)) x (pos 0)) y ⌝ }
+    rising: &mut [u32],
+    falling: &mut [u32],
+)
+    requires { ⌜ (n ≤ length (now above)) × ((n ≤ length (now imbalance)) × Moderate n (now imbalance)) ⌝ }
+    requires room { ⌜ (n ≤ length (now rising)) × (n ≤ length (now falling)) ⌝ }
+    ensures up { λ _. ⌜ Filled n (slope root (at (now (above .entry))) (λ x. rises (getD (now (imbalance .entry)) x (pos 0)))) (now (rising .entry)) (now (rising .exit)) ⌝ }
+    ensures down { λ _. ⌜ Filled n (slope root (at (now (above .entry))) (λ x. falls (getD (now (imbalance .entry)) x (pos 0)))) (now (falling .entry)) (now (falling .exit)) ⌝ }
 {
-    let mut up: u64 = 0;
-    let mut down: u64 = 0;
-    let mut x = y;
-    while x != root {
-        up += length_if(rises(imbalance, x), above[x]);
-        down += length_if(falls(imbalance, x), above[x]);
-        x = parents[x] as usize;
+    let mut x: usize = 0;
+    while x < n {
+        rising[x] = pick(x != root, pick(rises(imbalance, x), above[x]));
+        falling[x] = pick(x != root, pick(falls(imbalance, x), above[x]));
+        x += 1;
     }
-    difference(up, down)
 }
 
-// the potential of each vertex, from the imbalances
+// more than the lengths of a tree: heights from here stay above 0
+const GROUND: u32 = 1 << 23;
+
+// the potential of each vertex, from the imbalances and the words: what it rises by to the vertices that it is below, less what it falls by
 pub fn write_potential(
     n: usize,
     root: usize,
-    parents: &[u32],
+    masks: &[u64],
     above: &[u32],
     imbalance: &[i32],
     out: &mut [i32],
 )
     requires { ⌜ (n ≤ 64) × (n ≤ length (now out)) ⌝ }
-    requires long { ⌜ (n ≤ length (now parents)) × ((n ≤ length (now above)) × (n ≤ length (now imbalance))) ⌝ }
-    requires tree { ⌜ Rooted n root (at (now parents)) ⌝ }
+    requires long { ⌜ VertexSets n (now masks) × ((n ≤ length (now above)) × (n ≤ length (now imbalance))) ⌝ }
     requires lengths { ⌜ Short n root (at (now above)) × Moderate n (now imbalance) ⌝ }
     ensures { λ _. ⌜ now (out .exit)
-        ≡ tab n (potentialFrom n root (at (now (parents .entry))) (at (now (above .entry))) (λ x. getD (now (imbalance .entry)) x (pos 0)))
+        ≡ tab n (potentialFrom n root (at (now (masks .entry))) (at (now (above .entry))) (λ x. getD (now (imbalance .entry)) x (pos 0)))
         ++ drop n (now (out .entry)) ⌝ }
 {
+    let mut rising = [0u32; 64];
+    let mut falling = [0u32; 64];
+    write_slopes(n, root, above, imbalance, &mut rising, &mut falling);
+    let heights = word_heights(n, GROUND, masks, &rising, &falling);
     let mut y: usize = 0;
     while y < n {
-        out[y] = potential_at(n, root, parents, above, imbalance, y);
+        out[y] = difference(heights[y] as u64, GROUND as u64);
         y += 1;
     }
 }

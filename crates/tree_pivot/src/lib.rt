@@ -4,12 +4,14 @@ ghost use Prim.Native.Nat.{_≤_, _<_};
 ghost use lib.ListN.{length};
 ghost use Rattle.arithmetic.specs.Steps.Product.{gap};
 ghost use Rattle.arithmetic.specs.Table.{at};
+ghost use Rattle.vertex_set.specs.Steps.Shift.{shifted, Room};
 ghost use Rattle.tree_pivot.specs.Steps.Pivot.{Cut};
 ghost use Rattle.tree_pivot.specs.Steps.PathReversal.{PathReversed};
-ghost use Rattle.tree_pivot.specs.Steps.PivotTables.{shifted, Room, CanShift, CanComplement, PathShifted, PathComplemented, CanMove, TotalsMoved, CanShiftPotential, PotentialShifted};
+ghost use Rattle.tree_pivot.specs.Steps.PivotTables.{CanShift, CanComplement, PathShifted, PathComplemented, CanMove, TotalsMoved};
 ghost use Rattle.tree_pivot.specs.Steps.PivotPotential.{violation};
 ghost use Rattle.tree_pivot.specs.Steps.Basis.{tables, Some, Every};
 ghost use Rattle.tree_pivot.specs.Steps.PivotBasis.{CommonAncestor, CanPivot, CheaperBasis};
+use vertex_set::shift_word;
 
 // An exchange: the edge between a and b, of length `long`, enters the tree, and the edge above `leaving` leaves it. The subtree of `leaving`, in which a is and b is
 // not, hangs by a on b then; its potential rises or falls until the edge is tight. `ancestor` is above a and b.
@@ -181,27 +183,6 @@ fn reverse_path(n: usize, root: usize, x: Exchange, parents: &mut [u32; 64], abo
     }
 }
 
-// The same of a potential.
-fn shifted_potential(rises: bool, d: u32, u: u32) -> u32
-    requires { ⌜ Room 32 rises d u ⌝ }
-    ensures { λ r. ⌜ r ≡ shifted rises d u ⌝ }
-{
-    if rises { u + d } else { u - d }
-}
-
-// Raises or lowers the potential of each vertex of a subtree, given by its mask, by d.
-fn shift_potential(n: usize, subtree: u64, rises: bool, d: u32, potential: &mut [u32; 64])
-    requires { ⌜ CanShiftPotential n subtree rises d (now potential) ⌝ }
-    ensures { λ _. ⌜ PotentialShifted subtree rises d (now (potential .entry)) (now (potential .exit)) n ⌝ }
-{
-    let mut left = subtree;
-    while left != 0 {
-        let x = vertex_set::lowest_vertex(n, left);
-        potential[x] = shifted_potential(rises, d, potential[x]);
-        left = left - (1u64 << x);
-    }
-}
-
 // By how much potentials u and w are further apart than an edge is long.
 fn violation(u: u32, w: u32, long: u32) -> u32
     requires { ⌜ long ≤ gap u w ⌝ }
@@ -236,5 +217,5 @@ pub fn pivot(
     let a = x.a;
     let b = x.b;
     let d = violation(potential[a], potential[b], x.long);
-    shift_potential(n, masks[a], x.rises, d, potential);
+    shift_word(n, masks[a], x.rises, d, potential);
 }

@@ -1,3 +1,4 @@
 pub mod Figures
 pub mod Cases
 pub mod Best
+pub mod Marks

@@ -100,6 +100,15 @@ mod ffi {
             cost: *mut u64,
             moves: *mut u32,
         ) -> u32;
+        pub fn mover_mark_ancestors(
+            n: usize,
+            root: usize,
+            parents: *const u32,
+            parents_len: usize,
+            y: usize,
+            masks: *mut u64,
+            masks_len: usize,
+        ) -> u32;
         pub fn mover_read(
             image: *const u8,
             image_len: usize,
@@ -315,6 +324,37 @@ pub fn mover_solve(
             plan.len(),
             cost,
             moves,
+        )
+    }
+}
+
+/// Climbs from vertex y of a tree up to its root: sets bit y in `masks[x]` for each x that y is below, and
+/// changes no other bit. y is below x if x is y or is met going from y up through the parents.
+///
+/// If y is no vertex, the checks run all the same, and nothing changes. No edges are looked at. Refuses by 1,
+/// 2, 8 and 10.
+///
+/// ```
+/// use weight_mover::calls::mover_mark_ancestors;
+///
+/// // 1 is the root, 0 below it and 2 below 0.
+/// let mut masks = [0, 0b1000, 0, 9];
+/// assert_eq!(mover_mark_ancestors(3, 1, &[1, 1, 0], 2, &mut masks), 0);
+/// assert_eq!(masks, [0b100, 0b1100, 0b100, 9]);
+/// assert_eq!(mover_mark_ancestors(3, 1, &[1, 1, 0], 3, &mut masks), 0);
+/// assert_eq!(mover_mark_ancestors(3, 1, &[2, 1, 0], 2, &mut masks), 10);
+/// assert_eq!(masks, [0b100, 0b1100, 0b100, 9]);
+/// ```
+pub fn mover_mark_ancestors(n: usize, root: usize, parents: &[u32], y: usize, masks: &mut [u64]) -> u32 {
+    unsafe {
+        ffi::mover_mark_ancestors(
+            n,
+            root,
+            parents.as_ptr(),
+            parents.len(),
+            y,
+            masks.as_mut_ptr(),
+            masks.len(),
         )
     }
 }

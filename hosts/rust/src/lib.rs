@@ -33,6 +33,7 @@
 //! | `mover_evaluate` | [`Graph::evaluate`] | [`Graph::evaluate_into`] |
 //! | `mover_is_optimal` | [`Graph::is_optimal`] | |
 //! | `mover_solve` | [`Graph::solve`] | [`Graph::solve_into`] |
+//! | `mover_mark_ancestors` | | [`mark_ancestors`] |
 //! | `mover_read` | [`read`] | [`read_into`] |
 //! | `mover_run` | [`run`] | [`run_into`] |
 //! | `mover_tree_new` | [`Tree::new`] | |
@@ -58,7 +59,7 @@ pub use calls::mover_run;
 pub use graph::{distances_of_records, distances_of_records_into, Distances, Edge, Graph};
 pub use patch::{read, read_into, Patch};
 pub use refusal::Refusal;
-pub use tree::Tree;
+pub use tree::{mark_ancestors, Tree};
 
 /// The greatest number of vertices.
 pub const MAX_VERTICES: usize = 64;

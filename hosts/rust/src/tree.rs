@@ -1,5 +1,7 @@
-use crate::calls::{mover_tree_depth, mover_tree_new, mover_tree_parent, mover_tree_subtree};
-use crate::MAX_VERTICES;
+use crate::calls::{
+    mover_mark_ancestors, mover_tree_depth, mover_tree_new, mover_tree_parent, mover_tree_subtree,
+};
+use crate::{Refusal, MAX_VERTICES};
 
 /// A tree by value: a root and each vertex's parent, the root being its own.
 ///
@@ -51,4 +53,34 @@ impl Tree {
         // A vertex is below itself, so the word of one is never 0.
         Some(mover_tree_subtree(*self, v)).filter(|&word| word != 0)
     }
+}
+
+/// Climbs from a vertex of a tree up to its root: sets bit `y` in the word of each vertex that `y` is below, and
+/// changes no other bit. A vertex is below itself and all that it meets going up.
+///
+/// `masks` has a word for each vertex, and may have more. A climb from each vertex, in any order, on words of 0
+/// gives the words of [`Tree::subtree`]. From what is no vertex nothing changes. Edges are not looked at. After a
+/// refusal all words are as they were.
+///
+/// ```
+/// use weight_mover::{mark_ancestors, Refusal};
+///
+/// // 1 is the root, 0 below it and 2 below 0.
+/// let parents = [1, 1, 0];
+/// let mut masks = [0; 3];
+/// for y in [2, 0, 1] {
+///     mark_ancestors(3, 1, &parents, y, &mut masks)?;
+/// }
+/// assert_eq!(masks, [0b101, 0b111, 0b100]);
+/// assert_eq!(mark_ancestors(3, 0, &parents, 2, &mut masks), Err(Refusal::TreeParents));
+/// # Ok::<(), Refusal>(())
+/// ```
+pub fn mark_ancestors(
+    n: usize,
+    root: usize,
+    parents: &[u32],
+    y: usize,
+    masks: &mut [u64],
+) -> Result<(), Refusal> {
+    Refusal::check(mover_mark_ancestors(n, root, parents, y, masks))
 }

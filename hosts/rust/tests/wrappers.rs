@@ -9,11 +9,12 @@ use reference::runs::{cases, seed};
 use reference::Lists;
 use std::fmt::Debug;
 use weight_mover::calls::{
-    mover_distances, mover_distances_of_records, mover_evaluate, mover_is_optimal, mover_solve,
+    mover_distances, mover_distances_of_records, mover_evaluate, mover_is_optimal, mover_mark_ancestors,
+    mover_solve,
 };
 use weight_mover::{
-    distances_of_records, distances_of_records_into, read, read_into, run, run_into, Answer, Distances, Edge,
-    Evaluation, Graph, Patch, Refusal, Tree,
+    distances_of_records, distances_of_records_into, mark_ancestors, read, read_into, run, run_into, Answer,
+    Distances, Edge, Evaluation, Graph, Patch, Refusal, Tree,
 };
 
 /// The graph of some lists, its edges added in any order and their ends either way.
@@ -546,4 +547,41 @@ fn trees() {
     let mut wide = full;
     wide.n = 65;
     assert!((0..66).all(|v| none(wide, v)));
+}
+
+/// A climb is the call's, with its number as a refusal; from all vertices it gathers the tree's words.
+#[test]
+fn climbs() {
+    let best = Graph::new(4)
+        .edges([(0, 1, 1), (1, 2, 1), (1, 3, 1)])
+        .solve(&[1, 0, 0, 0], &[0, 0, 1, 0])
+        .expect("accepted");
+    let mut masks = [0; 5];
+    for y in [3, 4, 0, 2, usize::MAX, 1] {
+        let before = masks;
+        assert_eq!(mark_ancestors(4, 0, &best.parents, y, &mut masks), Ok(()));
+        assert_eq!(masks == before, y >= 4);
+    }
+    assert_eq!(masks, [0b1111, 0b1110, 0b100, 0b1000, 0]);
+    assert!((0..4).all(|x| best.tree().subtree(x) == Some(masks[x])));
+
+    let wrong: [(usize, usize, &[u32], usize, Refusal); 8] = [
+        (0, 0, &[], 5, Refusal::VertexCount),
+        (65, 0, &[0; 65], 65, Refusal::VertexCount),
+        (256 + 4, 0, &[0, 0, 1, 1], 5, Refusal::VertexCount),
+        (4, 0, &[0, 0, 1], 5, Refusal::TableSize),
+        (4, 0, &[0, 0, 1, 1, 1], 5, Refusal::TableSize),
+        (4, 0, &[0, 0, 1, 1], 3, Refusal::TableSize),
+        (4, 1 << 32, &[0, 0, 1, 1], 5, Refusal::TreeParents),
+        (4, 0, &[0, 2, 3, 1], 5, Refusal::TreeCycle),
+    ];
+    for (n, root, parents, places, refusal) in wrong {
+        for y in [0, 3, 4, usize::MAX] {
+            let mut words = vec![5; places];
+            assert_eq!(mark_ancestors(n, root, parents, y, &mut words), Err(refusal));
+            assert_eq!(words, vec![5; places]);
+            let number = mover_mark_ancestors(n, root, parents, y, &mut words);
+            assert_eq!(number, refusal.number());
+        }
+    }
 }

@@ -1,6 +1,6 @@
 -- The first basis: the tables of a spanning tree, for the perturbed masses.
 use Prim.Native.Nat.{ℕ, _+_, _^_, _≤_, _<_}
-use mathlib.Core.Path.{_≡_, refl, sym, ap, _∙_}
+use mathlib.Core.Path.{_≡_, refl, sym, _∙_}
 use mathlib.Core.List.{List}
 use native.Mathlib.Omega.{arith}
 use lib.ListN.{length, set, length-set}
@@ -8,12 +8,11 @@ use lib.Seq.{getD-set-same, getD-set-other}
 use mathlib.Core.Bool.{Bool, true, false, cond}
 use native.Mathlib.Nat.{mul-le-mul-right}
 use lib.Dec.{eqb}
-use Rattle.arithmetic.specs.Sum.{pick, sum}
+use Rattle.arithmetic.specs.Sum.{sum}
 use Rattle.arithmetic.specs.Table.{at}
 use Rattle.arithmetic.specs.Steps.Fill.{Filled}
 use Rattle.arithmetic.proofs.Laws.Bools.{case≡}
-use Rattle.arithmetic.proofs.Laws.Sum.{sum-ext, sum-ge, sum-le-mul}
-use Rattle.rooted_tree.specs.Chain.{below}
+use Rattle.arithmetic.proofs.Laws.Sum.{sum-ge, sum-le-mul}
 use Rattle.rooted_tree.specs.Steps.Rooted.{Rooted}
 use Rattle.rooted_tree.specs.Steps.Subtotal.{subtotal}
 use Rattle.graph.specs.Graph.{Graph, edgeLength}
@@ -55,15 +54,6 @@ perturbed-fits {n} {first} {rest} masses {old} {new} w few f r light =
     grains : (b : Bool) → cond b first rest ≤ 64
     grains true = f
     grains false = r
-
--- the subtotals of a table are those of the masses that it was filled with
-pub filled-subtotal : {n : ℕ} (p : ℕ → ℕ) {m : ℕ → ℕ} {old masses old' new : List ℕ} → Filled n m old masses
-    → Filled n (subtotal p n (at masses)) old' new → Filled n (subtotal p n m) old' new
-unfolding subtotal
-filled-subtotal {n} p w u = record {
-  size = u .size;
-  each = λ x l. u .each x l ∙ sum-ext n _ _ (λ y k. ap (λ (z : ℕ). pick (below p n y x) z) (w .each y k));
-}
 
 module _ {g : Graph} {mu nu parents edge : List ℕ} (can : CanStart g mu nu parents edge) where
   pub vertices : (0 < g .n) × (g .n ≤ 64)

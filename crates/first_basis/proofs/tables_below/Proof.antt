@@ -1,7 +1,8 @@
 -- `tables_below` meets its contract. Assumes nothing.
 use native.Mathlib.Omega.{arith}
 use borrow.Author.Needs.{needs}
-use Rattle.first_basis.proofs.Laws.FirstBasis.{perturbed-fits, filled-subtotal}
+use Rattle.subtree_sums.proofs.Laws.Sums.{filled-subtotal}
+use Rattle.first_basis.proofs.Laws.FirstBasis.{perturbed-fits}
 use Rattle.first_basis.proofs.tables_below.Statement.{statement}
 use Rattle.first_basis.proofs.tables_below.Tie as tie
 

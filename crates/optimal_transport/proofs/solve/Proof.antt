@@ -51,7 +51,7 @@ evaluate-tree-requires c κs =
     let b : tie.After-best-tree = search in
     let z = unrefused b .if1 .left in
     let problem = problem-accepted (checked b .check .ensures) z in
-    found-evaluable problem (b .best-tree .ensures) (search) (search) (omega (arith, few b)) (room (checked b) z .1 .1)
+    (found-evaluable problem (b .best-tree .ensures) (search) (search) (omega (arith, few b)) (room (checked b) z .1 .1), omega (arith, few b))
 
 write-parents-requires : tie.Need-write-parents-requires
 write-parents-requires c κs =
@@ -73,7 +73,7 @@ returns-2 c =
     let b : tie.After-best-tree = search in
     let k = checked b in
     solved _ _ _ (tested k .has-room .ensures) (k .check .ensures) (unrefused b .if1 .left) (b .best-tree .ensures)
-    (v .evaluate-tree .ensures _ _ _) (w .write-parents .ensures) (u .write-potential .ensures)
+    (v .evaluate-tree .ensures .1 _ _ _) (w .write-parents .ensures) (u .write-potential .ensures)
 
 pub solve-spec : {M : Type 1} → statement M
 solve-spec =
@@ -85,6 +85,7 @@ solve-spec =
     (λ c κs. search needs)
     returns
     best-tree-requires
+    (λ c. search needs)
     (λ c. search needs)
     (λ c. search needs)
     evaluate-tree-requires

@@ -6,11 +6,12 @@ use mathlib.Core.List.{List}
 use native.Mathlib.Nat.{mul-le-mul}
 use native.Mathlib.Omega.{arith}
 use lib.Dec.{eqb}
+use lib.IntN.{ℤ, pos}
 use lib.ListN.{length}
 use borrow.Author.Tests.{eq-eqb, ne-eqb}
 use Rattle.arithmetic.specs.Sum.{pick}
-use Rattle.arithmetic.specs.Table.{at}
-use Rattle.arithmetic.proofs.Laws.Table.{result-refused}
+use Rattle.arithmetic.specs.Table.{at, tab}
+use Rattle.arithmetic.proofs.Laws.Table.{length-tab, result-refused}
 use Rattle.graph.specs.Graph.{Graph}
 use Rattle.graph.specs.Steps.Accepted.{Accepted}
 use Rattle.graph.proofs.Laws.Accepted.{vertices-in}
@@ -29,6 +30,13 @@ use Rattle.optimality_test.specs.Steps.TreeCosts.{CanCost, CostOf}
 -- room for the tables of 64 vertices
 room-64 : (g : Graph) → Accepted g → (g .n ≤ 64) × (g .n * g .n ≤ 4096)
 room-64 g acc = let v = vertices-in (g .n) (acc .vertices) in (v .1, omega (arith, mul-le-mul (v .1) (v .1)))
+
+-- a tree whose cost can be had has at most 64 vertices
+pub cost-few : {n r : ℕ} {parents above mu nu : List ℕ} → CanCost n r parents above mu nu → n ≤ 64
+cost-few can =
+    let none : ℕ → ℕ = λ _. 0 in
+    let flat : ℕ → ℤ = λ _. pos 0 in
+    can (tab 64 flat) (tab 4096 none) (omega (arith, length-tab 64 flat)) (omega (arith, length-tab 4096 none)) .few
 
 -- ---- the tree found
 pub found-can : {g : Graph} {mu₀ nu₀ : List ℕ} (problem : TransportProblem g mu₀ nu₀) {m v : ℕ → ℕ} {n r : ℕ} {parents above u : List ℕ}

@@ -16,8 +16,8 @@ abbrev μ-loop : tie.MeasureT-loop
 μ-loop n depth masks senders₀ receivers₀ surplus₀ deficit₀ plan₀ vertices done₀ senders receivers surplus deficit plan done =
     n - done
 
-gather-layers-requires : tie.Need-gather-layers-requires Inv-loop μ-loop
-gather-layers-requires c κs = let s : tie.Start Inv-loop μ-loop = search in (s .pre .2 .small, s .pre .0)
+layers-requires : tie.Need-layers-requires Inv-loop μ-loop
+layers-requires c κs = let s : tie.Start Inv-loop μ-loop = search in (s .pre .2 .small, s .pre .0)
 
 loop-holds : tie.Need-loop-holds Inv-loop μ-loop
 loop-holds c = let s : tie.Start Inv-loop μ-loop = search in (omega arith, layering-none _ _ (omega arith) (s .pre .2))
@@ -29,8 +29,8 @@ take-layer-requires : tie.Need-take-layer-requires Inv-loop μ-loop
 take-layer-requires c κs =
     let t : tie.In-loop Inv-loop μ-loop = search in
     let s : tie.Start Inv-loop μ-loop = search in
-    let g : tie.After-gather-layers Inv-loop μ-loop = search in (
-      mask-bits _ _ _ (g .gather-layers .ensures _ (omega (arith, t .loop-test .taken, s .pre .2 .small))),
+    let g : tie.After-layers Inv-loop μ-loop = search in (
+      mask-bits _ _ _ (g .layers .ensures _ (omega (arith, t .loop-test .taken, s .pre .2 .small))),
       s .pre .1,
       t .before .loop .inv .1 .consistent,
     )
@@ -39,10 +39,10 @@ loop-again : tie.Need-loop-again Inv-loop μ-loop
 loop-again c =
     let t : tie.In-loop Inv-loop μ-loop = search in
     let s : tie.Start Inv-loop μ-loop = search in
-    let g : tie.After-gather-layers Inv-loop μ-loop = search in (
+    let g : tie.After-layers Inv-loop μ-loop = search in (
       omega (arith, t .loop-test .taken),
       layering-more _ _ _ _ (t .before .loop .inv .1) (omega (arith, t .loop-test .taken))
-          (g .gather-layers .ensures _ (omega (arith, t .loop-test .taken, s .pre .2 .small))) (c .before .before .take-layer .ensures),
+          (g .layers .ensures _ (omega (arith, t .loop-test .taken, s .pre .2 .small))) (c .before .before .take-layer .ensures),
     )
 
 same-length : tie.Need-same-length Inv-loop μ-loop
@@ -57,7 +57,7 @@ take-layers-spec =
     (tie.spec
     Inv-loop
     μ-loop
-    gather-layers-requires
+    layers-requires
     loop-holds
     (λ c. omega arith)
     (λ c. omega arith)

@@ -1,24 +1,11 @@
 -- The depths of n vertices and the masks of their subtrees in tables, and the plan's rule by these.
-use mathlib.Core.Path.{_≡_}
 use mathlib.Core.Bool.{Bool}
 use mathlib.Core.List.{List}
-use Prim.Native.Nat.{ℕ, _≤_, _<_}
-use lib.ListN.{length}
+use Prim.Native.Nat.{ℕ}
 use Rattle.arithmetic.specs.Table.{at}
-use Rattle.arithmetic.specs.Mask.{mask}
 use Rattle.arithmetic.specs.Steps.Mask.{bit}
 use Rattle.plan_rule.specs.Plan.{PartialPlan}
 use Rattle.plan_rule.specs.Steps.Taken.{takenByDepth}
-
--- numbers of at most n, as depths are
-pub record Depths (n : ℕ) (depths : List ℕ) : Type 0 where
-  pub long : n ≤ length depths
-  pub each : (x : ℕ) → x < n → at depths x ≤ n
-
--- sets of vertices below n, as words
-pub record VertexSets (n : ℕ) (words : List ℕ) : Type 0 where
-  pub long : n ≤ length words
-  pub each : (x : ℕ) → x < n → at words x ≡ mask n (bit (at words x))
 
 -- the set that the word of x tells
 unfoldable pub setOf : List ℕ → ℕ → ℕ → Bool

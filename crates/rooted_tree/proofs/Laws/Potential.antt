@@ -2,12 +2,11 @@
 -- parent, where `down` holds lower.
 use mathlib.Core.Path.{_≡_}
 use mathlib.Core.Bool.{Bool, true, false, not}
-use Prim.Native.Nat.{ℕ, _+_, _*_, _-_, _≤_, _<_}
+use Prim.Native.Nat.{ℕ, _+_, _-_, _≤_, _<_}
 use native.Mathlib.Omega.{arith}
 use lib.Dec.{eqb}
 use Rattle.arithmetic.specs.Sum.{pick, sum}
-use Rattle.arithmetic.proofs.Laws.Bools.{case≡, eqb-self}
-use Rattle.arithmetic.proofs.Laws.Sum.{pick-le, sum-le, sum-le-mul}
+use Rattle.arithmetic.proofs.Laws.Sum.{pick-le, sum-le}
 use Rattle.rooted_tree.specs.Steps.Rooted.{Rooted}
 use Rattle.rooted_tree.specs.Steps.Subtotal.{inner}
 use Rattle.rooted_tree.specs.Steps.Potential.{lengthsWhere}
@@ -25,17 +24,6 @@ module _ (n r : ℕ) (p l : ℕ → ℕ) (test : ℕ → Bool) (y : ℕ) where
         arith,
         climbed-le n r p (λ x. pick (test x) (l x)) y,
         sum-le n (λ x. inner r x (pick (test x) (l x))) l (λ x h. omega (arith, pick-le (not (eqb x r)) (pick (test x) (l x)), pick-le (test x) (l x))),
-      )
-
-  pub lengths-most : (k : ℕ) → ((x : ℕ) → x < n → (x ≡ r → ⊥) → l x ≤ k) → lengthsWhere n r p l test y ≤ n * k
-  lengths-most k short =
-      omega (
-        arith,
-        climbed-le n r p (λ x. pick (test x) (l x)) y,
-        sum-le-mul n k (λ x. inner r x (pick (test x) (l x))) (λ x h.
-            case≡ x r
-            (λ e. rw (e, eqb-self r) (omega arith))
-            (λ d. omega (arith, pick-le (not (eqb x r)) (pick (test x) (l x)), pick-le (test x) (l x), short x h d))),
       )
 
 module _ {n r : ℕ} {p : ℕ → ℕ} (t : Rooted n r p) (l : ℕ → ℕ) (up down : ℕ → Bool) (c : ℕ) where

@@ -9,7 +9,7 @@ use Rattle.arithmetic.specs.Sum.{pick, sum}
 use Rattle.arithmetic.proofs.Laws.Bools.{case, case≡, clash, is-false, or-elim, or-right, or-same, or-true-r, eqb-self}
 use Rattle.arithmetic.proofs.Laws.Sum.{pick-le, sum-ext, sum-le, sum-lt, sum-one, sum-add, sum-only'}
 use Rattle.rooted_tree.specs.Chain.{climb, below, depth}
-use Rattle.rooted_tree.specs.Steps.Rooted.{Rooted, pathSum, ReachesRoot}
+use Rattle.rooted_tree.specs.Steps.Rooted.{Rooted, pathSum}
 
 below-climb : (p : ℕ → ℕ) (k y x : ℕ) → below p k y x ≡ true → (j : ℕ) × (climb p j y ≡ x)
 unfolding below climb
@@ -93,6 +93,13 @@ module _ {n r : ℕ} {p : ℕ → ℕ} (t : Rooted n r p) where
   -- every vertex is below the root
   pub all-b : (y : ℕ) → y < n → below p n y r ≡ true
   all-b = tree-ind (λ y. below p n y r ≡ true) (refl-b r (t .root)) (λ y l d h. up-b y r l h)
+
+  -- only a vertex is above a vertex
+  pub above-in : (x y : ℕ) → y < n → below p n y x ≡ true → x < n
+  above-in x =
+      tree-ind (λ y. below p n y x ≡ true → x < n)
+      (λ h. rw (root-b x h) at (t .root))
+      (λ y l d ih h. case≡ y x (λ e. rw e at l) (λ ne. ih (down-b y x l h ne)))
 
   -- two vertices above one are comparable
   pub comparable : (x z y : ℕ) → y < n → below p n y x ≡ true → below p n y z ≡ true → below p n x z ≡ false → below p n z x ≡ true
@@ -218,7 +225,7 @@ module _ (n r : ℕ) (p rank : ℕ → ℕ) (root : r < n) (stay : p r ≡ r) (i
     up = λ y l. climb-rank (λ z. count (rank z)) (λ z k d. count-lt (p z) (rank z) (into z k) (falls z k d)) n y l (count-le (rank y));
   }
 
-climb-on : (r : ℕ) (p : ℕ → ℕ) → p r ≡ r → (k m x : ℕ) → k ≤ m → climb p k x ≡ r → climb p m x ≡ r
+pub climb-on : (r : ℕ) (p : ℕ → ℕ) → p r ≡ r → (k m x : ℕ) → k ≤ m → climb p k x ≡ r → climb p m x ≡ r
 unfolding climb
 climb-on r p e zero m x l h = rw h (climb-stay r p e m)
 climb-on r p e (suc k) zero x l h = absurd (omega arith)
@@ -230,7 +237,7 @@ depth-falls r p zero y e d = absurd (d e)
 depth-falls r p (suc k) y e d = rw (ne-eqb y r d) (omega (arith, depth-more p r k (p y) e))
 
 module _ (n r : ℕ) (p : ℕ → ℕ) (root : r < n) (stay : p r ≡ r) (into : (x : ℕ) → x < n → p x < n)
-    (chain : (x : ℕ) → x < n → ReachesRoot r p x) where
+    (chain : (x : ℕ) → x < n → (k : ℕ) × (climb p k x ≡ r)) where
   -- a number of steps that leads from every vertex to the root
   steps : (m : ℕ) → m ≤ n → (k : ℕ) × ((x : ℕ) → x < m → climb p k x ≡ r)
   steps zero l = (0, λ x k. absurd (omega arith))

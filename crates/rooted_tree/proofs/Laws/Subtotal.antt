@@ -8,11 +8,11 @@ use lib.Dec.{eqb}
 use borrow.Author.Tests.{ne-eqb}
 use Rattle.arithmetic.specs.Sum.{pick, sum}
 use Rattle.arithmetic.proofs.Laws.Bools.{case≡, eqb-self}
-use Rattle.arithmetic.proofs.Laws.Sum.{pick-le, pick-mul, sum-ext, sum-le, sum-add, sum-mul, sum-swap}
+use Rattle.arithmetic.proofs.Laws.Sum.{pick-le, pick-mul, sum-ext, sum-le, sum-add, sum-mul, sum-swap, sum-only}
 use Rattle.rooted_tree.specs.Chain.{below}
 use Rattle.rooted_tree.specs.Steps.Rooted.{Rooted, pathSum}
-use Rattle.rooted_tree.specs.Steps.Subtotal.{subtotal, inner}
-use Rattle.rooted_tree.proofs.Laws.Rooted.{tree-ind, all-b, path-sum-root, path-sum-step}
+use Rattle.rooted_tree.specs.Steps.Subtotal.{subtotal, inner, isChild}
+use Rattle.rooted_tree.proofs.Laws.Rooted.{tree-ind, at-root, at-step, refl-b, all-b, parent-out, path-sum-root, path-sum-step}
 
 -- what holds its value at every vertex but the root
 pub inner-ext : (n r : ℕ) (f g : ℕ → ℕ) → ((x : ℕ) → x < n → (x ≡ r → ⊥) → f x ≡ g x) → (x : ℕ) → x < n → inner r x (f x) ≡ inner r x (g x)
@@ -54,6 +54,40 @@ module _ {n r : ℕ} {p : ℕ → ℕ} (t : Rooted n r p) where
       ∙ sum-swap n n (λ x y. w x * pick (below p n y x) (m y))
       ∙ sum-ext n _ _ (λ y l. sum-ext n _ _ (λ x k. pick-swap (below p n y x) (w x) (m y))
       ∙ sum-mul n (m y) (λ x. pick (below p n y x) (w x)))
+
+  module _ (z : ℕ) where
+    child : ℕ → ℕ
+    child c = pick (isChild r p z c) 1
+
+    -- what is below z is z, or has one child of z above it
+    through-child : (y : ℕ) → y < n → pick (below p n y z) 1 ≡ pick (eqb y z) 1 + pathSum p n child y
+    through-child =
+        tree-ind t (λ y. pick (below p n y z) 1 ≡ pick (eqb y z) 1 + pathSum p n child y)
+        (let e : child r ≡ 0 = unfold child in rw (eqb-self r) in rw (at-root t z) (omega (arith, path-sum-root t child, e)))
+        (λ y l d h.
+        let e : child y ≡ pick (eqb (p y) z) 1 = unfold child in rw (ne-eqb y r d) in
+        let s : pathSum p n child y ≡ pick (below p n (p y) z) 1 = omega (arith, h, e, path-sum-step t child y l d) in
+        rw s (case≡ y z
+        (λ q. rw (← q, refl-b t y l, eqb-self y, parent-out t y l d) (omega arith))
+        (λ ne. rw (at-step t y z l, ne-eqb y z ne) (omega arith))))
+
+    children : (m : ℕ → ℕ) → sum n (λ c. child c * subtotal p n m c) ≡ sum n (λ c. pick (isChild r p z c) (subtotal p n m c))
+    unfolding child
+    children m = sum-ext n _ _ (λ c l. omega (arith, pick-swap (isChild r p z c) (subtotal p n m c) 1))
+
+  -- what is below z: z itself, and what is below its children
+  pub subtotal-children : (m : ℕ → ℕ) (z : ℕ) → z < n
+      → subtotal p n m z ≡ m z + sum n (λ c. pick (isChild r p z c) (subtotal p n m c))
+  subtotal-children m z l =
+      unfold subtotal in (sum-ext n _ (λ y. pick (eqb y z) (m y) + m y * pathSum p n (child z) y) (λ y k.
+      omega (
+        arith,
+        pick-swap (below p n y z) (m y) 1,
+        pick-swap (eqb y z) (m y) 1,
+        ap (λ (s : ℕ). m y * s) (through-child z y k),
+      )))
+      ∙ sum-add n (λ y. pick (eqb y z) (m y)) (λ y. m y * pathSum p n (child z) y)
+      ∙ omega (arith, sum-only n z m l, subtotals-above (child z) m, children z m)
 
   parents : (U m : ℕ → ℕ) → sum n (λ x. up U x * subtotal p n m x) ≡ sum n (λ x. inner r x (U (p x) * subtotal p n m x))
   unfolding up

@@ -14,9 +14,3 @@ pub record Rooted (n r : ℕ) (p : ℕ → ℕ) : Type 0 where
 -- f summed over the vertices above y: y, its parent and so on up to the root
 abbrev pub pathSum : (ℕ → ℕ) → ℕ → (ℕ → ℕ) → ℕ → ℕ
 pathSum p n f y = sum n (λ x. pick (below p n y x) (f x))
-
--- ---- chains that reach the root, by whatever number of steps, make a tree
-
--- the chain of x reaches the root
-abbrev pub ReachesRoot : ℕ → (ℕ → ℕ) → ℕ → Type 0
-ReachesRoot r p x = (k : ℕ) × (climb p k x ≡ r)

@@ -22,7 +22,8 @@ use Rattle.plan_rule.specs.Steps.Agreement.{Agree}
 use Rattle.plan_rule.proofs.Laws.Agreement.{agree-trans, layers-agree}
 use Rattle.plan_rule.proofs.Laws.PlanMoves.{moves-filled}
 use Rattle.plan_matching.specs.Steps.Residue.{Residue, residue, partialPlan, positive, Consistent, Done}
-use Rattle.plan_layers.specs.Steps.Layers.{Depths, VertexSets, setOf, takenByTables}
+use Rattle.vertex_set.specs.Steps.Sets.{VertexSets, Depths}
+use Rattle.plan_layers.specs.Steps.Layers.{setOf, takenByTables}
 use Rattle.transport_plan.specs.Steps.PlanSteps.{TreeTables, Measures, Zeros, SharedKept}
 use Rattle.plan_rule.specs.Plan as Plan
 

@@ -6,10 +6,13 @@ use native.Mathlib.Omega.{arith}
 use lib.IntN.{ℤ, pos, subℕ}
 use lib.ListN.{length, drop, getD}
 use Rattle.arithmetic.specs.Table.{at, tab, matrix}
+use Rattle.arithmetic.specs.Mask.{mask}
 use Rattle.arithmetic.specs.Steps.Fill.{Filled}
 use Rattle.arithmetic.proofs.Laws.Table.{length-tab, length-rows, front-at, front-length, result-refused, written-refused}
-use Rattle.rooted_tree.specs.Steps.Rooted.{Rooted}
+use Rattle.vertex_set.specs.Steps.Sets.{VertexSets}
+use Rattle.rooted_tree.specs.Chain.{below}
 use Rattle.rooted_tree.specs.Steps.Subtotal.{subtotal}
+use Rattle.subtree_sums.proofs.Laws.Heights.{words-sets}
 use Rattle.graph.specs.Graph.{Graph, graph}
 use Rattle.spanning_tree.specs.TreeValue.{parentsHeld}
 use Rattle.given_tree.specs.Given.{Given, answersOk}
@@ -41,14 +44,15 @@ module _ (g : Graph) (r : ℕ) (p mu nu l : ℕ → ℕ) (lengths : LengthsTo g 
     plan-is = e .0;
   }
 
-  -- and so does its potential, from the imbalances
-  pub potential-from : (imbalances potentials : List ℤ) {imbalances' potentials' : List ℤ}
+  -- and so does its potential, from the words and the imbalances
+  pub potential-from : (imbalances potentials : List ℤ) {imbalances' potentials' : List ℤ} {old words : List ℕ}
+      → Filled (g .n) (λ x. mask (g .n) (λ y. below p (g .n) y x)) old words
       → imbalances' ≡ tab (g .n) (imbalance (g .n) p mu nu) ++ drop (g .n) imbalances
-      → potentials' ≡ tab (g .n) (potentialFrom (g .n) r p l (λ x. getD imbalances' x (pos 0))) ++ drop (g .n) potentials
+      → potentials' ≡ tab (g .n) (potentialFrom (g .n) r (at words) l (λ x. getD imbalances' x (pos 0))) ++ drop (g .n) potentials
       → potentials' ≡ tab (g .n) (potential g r p mu nu) ++ drop (g .n) potentials
-  potential-from imbalances potentials {imbalances'} i u =
+  potential-from imbalances potentials {imbalances'} words i u =
       u ∙ ap (λ (z : List ℤ). z ++ drop (g .n) potentials)
-      (potential-table g r p mu nu l lengths (λ x. getD imbalances' x (pos 0)) (λ x h. rw i (front-at (g .n) (imbalance (g .n) p mu nu) imbalances (pos 0) x h)))
+      (potential-table g r p mu nu l lengths words (λ x. getD imbalances' x (pos 0)) (λ x h. rw i (front-at (g .n) (imbalance (g .n) p mu nu) imbalances (pos 0) x h)))
 
 -- ---- how the call ends
 module _ {g : Graph} {w : Given} (imbalances potentials : List ℤ) (entries : List ℕ) {k : ℕ} {above above' first edge : List ℕ}
@@ -77,28 +81,28 @@ module _ {g : Graph} {w : Given} (imbalances : List ℤ) (u : ℕ) (entries : Li
   pub evaluable : 64 ≤ length above → Evaluable n r parents above' (w .mu) (w .nu) imbalances entries
   evaluable long = given-evaluable accepted (checked .lengths z) held long (rooms .0) (rooms .1 .1)
 
-  module _ {cost moved : ℕ} {imbalances' : List ℤ} {entries' : List ℕ}
+  module _ {cost moved : ℕ} {imbalances' : List ℤ} {entries' old words : List ℕ}
+      (gathered : Filled n (λ x. mask n (λ y. below (at parents) n y x)) old words)
       (promise : LengthsTo (graph n (g .lower) (g .upper) (g .lengths)) r (at parents) (at above')
       → TreeEvaluated (graph n (g .lower) (g .upper) (g .lengths)) r (at parents) (at (w .mu)) (at (w .nu))
       imbalances entries cost moved imbalances' entries') where
     value : TreeEvaluated g (w .root) (at (w .parents)) (at (w .mu)) (at (w .nu)) imbalances entries cost moved imbalances' entries'
     value = given-value accepted (checked .lengths z) held promise
 
-    pub potential-asked : 64 ≤ length above
-        → ((n ≤ 64) × (n ≤ u)) × (((n ≤ length parents) × ((n ≤ length above') × (n ≤ length imbalances')))
-        × (Rooted n r (at parents) × (Short n r (at above') × Moderate n imbalances')))
-    potential-asked room =
+    pub potential-asked : 64 ≤ length above → 64 ≤ length old
+        → ((n ≤ 64) × (n ≤ u)) × ((VertexSets n words × ((n ≤ length above') × (n ≤ length imbalances')))
+        × (Short n r (at above') × Moderate n imbalances'))
+    potential-asked room long =
         let e = evaluable room in
         let kept = ap length (value .imbalance-is) ∙ front-length (g .n) _ imbalances (rooms .0) in
-        let long : length parents ≡ 64 = ap length (held .1 .1) ∙ length-tab 64 _ in
         let moderate : Moderate n imbalances'
         = λ x l.
         rw (value .imbalance-is, front-at (g .n) (imbalance (g .n) (at (w .parents)) (at (w .mu)) (at (w .nu))) imbalances (pos 0) x (omega (arith, held .0)))
         (imbalance-moderate (g .n) (at (w .parents)) (at (w .mu)) (at (w .nu)) x (omega (arith, accepted .problem .before .light)) (omega (arith, accepted .problem .after .light))) in
-        ((e .few, omega (arith, rooms .1 .0, held .0)), ((omega (arith, e .few, long), (e .long-above, omega (arith, e .room-imbalance, kept))), (e .tree, (e .short, moderate))))
+        ((e .few, omega (arith, rooms .1 .0, held .0)), ((words-sets n (at parents) gathered (omega (arith, e .few, long)), (e .long-above, omega (arith, e .room-imbalance, kept))), (e .short, moderate)))
 
     pub evaluate-done : {potentials potentials' : List ℤ} → u ≡ length potentials
-        → potentials' ≡ tab n (potentialFrom n r (at parents) (at above') (λ x. getD imbalances' x (pos 0))) ++ drop n potentials
+        → potentials' ≡ tab n (potentialFrom n r (at words) (at above') (λ x. getD imbalances' x (pos 0))) ++ drop n potentials
         → Evaluated g w imbalances potentials entries 0 cost moved imbalances' potentials' entries'
     unfolding evaluateRefusal
     evaluate-done {potentials} e written = record {
@@ -109,6 +113,6 @@ module _ {g : Graph} {w : Given} (imbalances : List ℤ) (u : ℕ) (entries : Li
       potential-is =
           rw length-tab
           (potential-from g (w .root) (at (w .parents)) (at (w .mu)) (at (w .nu)) (at above') (checked .lengths z .each)
-          imbalances potentials (value .imbalance-is) (rw (held .0, held .1 .0, given-same accepted (checked .lengths z) held) at written));
+          imbalances potentials (rw (held .0, given-same accepted (checked .lengths z) held) at gathered) (value .imbalance-is) (rw (held .0, held .1 .0) at written));
       plan-is = rw length-rows (value .plan-is);
     }

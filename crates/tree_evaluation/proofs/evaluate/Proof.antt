@@ -18,7 +18,8 @@ evaluate-tree-requires c κs =
     let e : tie.Else1 = search in
     let k : tie.After-given-refusal = search in
     let r : tie.After-has-room = search in
-    evaluable _ _ _ (given-answers (r .has-room .ensures) (k .given-refusal .ensures)) (e .if1 .left) (m .new .ensures) (omega arith)
+    let v = evaluable _ _ _ (given-answers (r .has-room .ensures) (k .given-refusal .ensures)) (e .if1 .left) (m .new .ensures) (omega arith) in
+    (v, v .few)
 
 write-potential-requires : tie.Need-write-potential-requires
 write-potential-requires c κs =
@@ -27,7 +28,7 @@ write-potential-requires c κs =
     let e : tie.Else1 = search in
     let k : tie.After-given-refusal = search in
     let r : tie.After-has-room = search in
-    potential-asked _ _ _ (given-answers (r .has-room .ensures) (k .given-refusal .ensures)) (e .if1 .left) (m .new .ensures) (v .evaluate-tree .ensures _ _ _) (omega arith)
+    potential-asked _ _ _ (given-answers (r .has-room .ensures) (k .given-refusal .ensures)) (e .if1 .left) (m .new .ensures) (v .evaluate-tree .ensures .0) (v .evaluate-tree .ensures .1 _ _ _) (omega arith) (omega arith)
 
 returns-2 : tie.Need-returns-2
 returns-2 c =
@@ -36,10 +37,10 @@ returns-2 c =
     let e : tie.Else1 = search in
     let k : tie.After-given-refusal = search in
     let r : tie.After-has-room = search in
-    evaluate-done _ _ _ (given-answers (r .has-room .ensures) (k .given-refusal .ensures)) (e .if1 .left) (m .new .ensures) (v .evaluate-tree .ensures _ _ _) refl (c .before .write-potential .ensures)
+    evaluate-done _ _ _ (given-answers (r .has-room .ensures) (k .given-refusal .ensures)) (e .if1 .left) (m .new .ensures) (v .evaluate-tree .ensures .0) (v .evaluate-tree .ensures .1 _ _ _) refl (c .before .write-potential .ensures)
 
 pub evaluate-spec : {M : Type 1} → statement M
 evaluate-spec =
     tie.close (tie.spec (λ c κs. omega arith) (λ c. omega arith) (λ c. omega arith) (λ c. omega arith) (λ c κs. omega arith)
-    returns (λ c κs. omega arith) (λ c. omega arith) evaluate-tree-requires (λ c. search needs) (λ c. omega arith)
+    returns (λ c κs. omega arith) (λ c. omega arith) (λ c. omega arith) evaluate-tree-requires (λ c. search needs) (λ c. omega arith)
     write-potential-requires (λ c. omega arith) (λ c. omega arith) (λ c. omega arith) returns-2)

@@ -1,5 +1,5 @@
--- The figures of a tree from tables: n vertices, the root r and parents p, a length l above each vertex, the masses a and b of mu and nu
--- below it, and its imbalance z.
+-- The figures of a tree from tables: n vertices, the root r, a length l above each vertex, the word of those below it, the masses a and b of
+-- mu and nu there, and its imbalance z.
 use Prim.Native.Nat.{ℕ, zero, suc, _*_, _^_, _<_}
 use mathlib.Core.Path.{_≡_}
 use mathlib.Core.Bool.{Bool, true, false}
@@ -7,10 +7,10 @@ use mathlib.Core.List.{List}
 use lib.IntN.{ℤ, pos, negsuc, subℕ}
 use lib.ListN.{getD}
 use lib.Signed.{mag}
-use Rattle.arithmetic.specs.Sum.{sum}
+use Rattle.arithmetic.specs.Sum.{sum, pick}
 use Rattle.arithmetic.specs.Steps.Product.{gap}
 use Rattle.rooted_tree.specs.Steps.Subtotal.{inner}
-use Rattle.rooted_tree.specs.Steps.Potential.{lengthsWhere}
+use Rattle.subtree_sums.specs.Steps.Sums.{holderSum}
 use Rattle.graph.specs.Graph.{Graph}
 use Rattle.tree_figures.specs.Figures.{toParent}
 
@@ -41,6 +41,11 @@ abbrev pub falls : ℤ → Bool
 falls (pos k) = false
 falls (negsuc k) = true
 
--- the potential of y: what it rises by above y, less what it falls by
-abbrev pub potentialFrom : (n r : ℕ) (p l : ℕ → ℕ) (z : ℕ → ℤ) → ℕ → ℤ
-potentialFrom n r p l z y = subℕ (lengthsWhere n r p l (λ x. rises (z x)) y) (lengthsWhere n r p l (λ x. falls (z x)) y)
+-- the length above x where the test holds, 0 elsewhere and at the root
+abbrev pub slope : (r : ℕ) (l : ℕ → ℕ) (test : ℕ → Bool) → ℕ → ℕ
+slope r l test x = inner r x (pick (test x) (l x))
+
+-- the potential of y by the words of the vertices: what it rises by to those that hold y, less what it falls by
+abbrev pub potentialFrom : (n r : ℕ) (words l : ℕ → ℕ) (z : ℕ → ℤ) → ℕ → ℤ
+potentialFrom n r words l z y =
+    subℕ (holderSum n words (slope r l (λ x. rises (z x))) y) (holderSum n words (slope r l (λ x. falls (z x))) y)

@@ -11,19 +11,20 @@ use Rattle.arithmetic.specs.Mask.{mask}
 use Rattle.arithmetic.specs.Steps.Mask.{bit}
 use Rattle.arithmetic.proofs.Laws.Bools.{clash, is-false}
 use Rattle.arithmetic.proofs.Laws.Mask.{bit-mask, mask-bits}
+use Rattle.vertex_set.specs.Steps.Shift.{shifted, CanShiftWord, WordShifted}
+use Rattle.vertex_set.proofs.Laws.Shift.{room-less}
 use Rattle.rooted_tree.specs.Chain.{below}
 use Rattle.rooted_tree.specs.Steps.Rooted.{Rooted}
 use Rattle.rooted_tree.proofs.Laws.Rooted.{refl-b, not-root, trans-b, comparable}
 use Rattle.graph.specs.Graph.{Graph, joined, edgeLength}
 use Rattle.tree_pivot.specs.Steps.Pivot.{Cut, Pivot, end, path, side, out}
 use Rattle.tree_pivot.specs.Steps.PathReversal.{PathReversed}
-use Rattle.tree_pivot.specs.Steps.PivotTables.{Totals, CanMove, TotalsMoved, CanShiftPotential, PotentialShifted, shifted}
+use Rattle.tree_pivot.specs.Steps.PivotTables.{Totals, CanMove, TotalsMoved}
 use Rattle.tree_pivot.specs.Steps.PivotPotential.{Enters, violation}
 use Rattle.tree_pivot.specs.Steps.Basis.{Tables, tables}
 use Rattle.tree_pivot.specs.Steps.PivotBasis.{CommonAncestor, CanPivot, CheaperBasis}
 use Rattle.tree_pivot.proofs.Laws.Pivot.{place, new-tree}
 use Rattle.tree_pivot.proofs.Laws.PathReversal.{met-path, unmet-out}
-use Rattle.tree_pivot.proofs.Laws.PivotTables.{room-less}
 use Rattle.tree_pivot.proofs.Laws.SubtreeMasks.{powers, powers-light, mask-totals, moved-masks, moved-subtree}
 use Rattle.tree_pivot.proofs.Laws.PivotCost.{cut-of}
 use Rattle.tree_pivot.proofs.Laws.PivotPotential.{shift-room, new-potential, new-grounded, cost-falls}
@@ -85,11 +86,11 @@ module _ {g : Graph} {m v : ℕ → ℕ} {a b c long : ℕ} {rises : Bool} {t : 
     subtree-bit x l = ap (λ (z : ℕ). bit z x) subtree-mask ∙ bit-mask (g .n) (λ y. below (at (t .parents)) (g .n) y c) x l
 
     pub can-shift-potential : (d : ℕ) → d ≤ violation (at (t .potential) a) (at (t .potential) b) long
-        → CanShiftPotential (g .n) (at masks' a) rises d (t .potential)
+        → CanShiftWord (g .n) (at masks' a) rises d (t .potential)
     can-shift-potential d e = record {
       few = few;
       size = can .basis .places .potential;
-      word = mask-bits (g .n) _ _ subtree-mask;
+      set = mask-bits (g .n) _ _ subtree-mask;
       room = λ x l h.
           room-less 32 rises d _ (at (t .potential) x) e (rw (can .length-is)
           (shift-room pivot (can .basis .network .symmetric) (can .basis .balances) (can .basis .network .short) few (can .basis .grounded) rises enters x l
@@ -125,7 +126,7 @@ module _ {g : Graph} {m v : ℕ → ℕ} {a b c long : ℕ} {rises : Bool} {t : 
     module _ {supply' demand' potential' : List ℕ} (moved-supply : TotalsMoved (g .n) 0 (t .parents) a b c (t .supply) supply')
         (moved-demand : TotalsMoved (g .n) 0 (t .parents) a b c (t .demand) demand')
         {d : ℕ} (d-is : d ≡ violation (at (t .potential) a) (at (t .potential) b) long)
-        (raised : PotentialShifted (at masks' a) rises d (t .potential) potential' (g .n)) where
+        (raised : WordShifted (at masks' a) rises d (t .potential) potential' (g .n)) where
       new-value : (x : ℕ) → x < g .n → at potential' x
           ≡ cond (below (at (t .parents)) (g .n) x c)
           (shifted rises (violation (at (t .potential) a) (at (t .potential) b) (edgeLength g a b)) (at (t .potential) x)) (at (t .potential) x)

@@ -16,7 +16,7 @@ use Rattle.rooted_tree.proofs.Laws.Rooted.{tree-ind, depth-step, depth-lt}
 use Rattle.rooted_tree.proofs.Laws.Flow.{agrees-near}
 use Rattle.tree_pivot.specs.Steps.Pivot.{Pivot}
 use Rattle.tree_pivot.specs.Steps.PivotCost.{Potential}
-use Rattle.tree_pivot.specs.Steps.PivotTables.{shifted, Room}
+use Rattle.vertex_set.specs.Steps.Shift.{shifted, Room}
 use Rattle.tree_pivot.specs.Steps.PivotPotential.{Violated, Enters, violation}
 use Rattle.tree_pivot.proofs.Laws.Pivot.{root-out, q-into, a-step, new-tree, total-a}
 use Rattle.tree_pivot.proofs.Laws.PivotCost.{mirrored, new-agrees, pivot-falls, pivot-falls'}

@@ -1,19 +1,14 @@
 -- The steps of a pivot: what is kept of each vertex is brought from the old tree to the new one by walks along paths.
-use mathlib.Core.Path.{_≡_, refl, sym, _∙_}
-use mathlib.Core.Bool.{Bool, true, false}
+use mathlib.Core.Path.{_≡_, refl, _∙_}
+use mathlib.Core.Bool.{Bool}
 use mathlib.Core.List.{List}
-use Prim.Native.Nat.{ℕ, _-_, _*_, _%_, _^_, _≤_, _<_}
-use native.Mathlib.Nat.{zero-div}
+use Prim.Native.Nat.{ℕ, _-_, _≤_}
 use native.Mathlib.Omega.{arith}
-use lib.ListN.{length, set, length-set}
-use lib.Seq.{getD-set-same, getD-set-other}
+use lib.ListN.{set}
 use Rattle.arithmetic.specs.Table.{at}
-use Rattle.arithmetic.specs.Steps.Mask.{bit}
-use Rattle.arithmetic.proofs.Laws.Bools.{case≡, clash}
-use Rattle.vertex_set.specs.Lowest.{lowest}
-use Rattle.vertex_set.proofs.Laws.Without.{Without, without-lowest}
+use Rattle.vertex_set.specs.Steps.Shift.{shifted, Room}
 use Rattle.tree_pivot.specs.Steps.PathWalk.{Handed}
-use Rattle.tree_pivot.specs.Steps.PivotTables.{shifted, Room, CanShift, CanComplement, PathShifted, PathComplemented, CanShiftPotential, shiftedWithin, PotentialShifted}
+use Rattle.tree_pivot.specs.Steps.PivotTables.{CanShift, CanComplement, PathShifted, PathComplemented}
 use Rattle.tree_pivot.proofs.Laws.PathWalk.{OnPath, path-met, hand-none, hand-more, stored-none, stored-kept, stored-more, stored-end}
 
 -- ---- one vertex of a walk
@@ -48,48 +43,3 @@ module _ {n r : ℕ} {p : List ℕ} {a stop total : ℕ} {t : List ℕ} (can : C
 
     pub complement-end : y ≡ stop → PathComplemented n p a stop total t u
     complement-end end = stored-end (can .store .walk) on (w .done) end
-
--- ---- the potential of a subtree
-
--- there is room for less where there is for more
-pub room-less : (w : ℕ) (rises : Bool) (d e u : ℕ) → d ≤ e → Room w rises e u → Room w rises d u
-room-less w true d e u l h = omega arith
-room-less w false d e u l h = omega arith
-
--- what is left to do makes of u what the subtree makes of t
-pub record ShiftingPotential (n subtree : ℕ) (rises : Bool) (d : ℕ) (t u : List ℕ) (left : ℕ) : Type 0 where
-  pub can : CanShiftPotential n left rises d u
-  pub size : length u ≡ length t
-  pub same : (x : ℕ) → x < n → shiftedWithin left rises d u x ≡ shiftedWithin subtree rises d t x
-
-module _ {n subtree : ℕ} {rises : Bool} {d : ℕ} {t : List ℕ} where
-  pub potential-none : CanShiftPotential n subtree rises d t → ShiftingPotential n subtree rises d t t subtree
-  potential-none can = record { can = can; size = refl; same = λ x l. refl }
-
-  module _ {u : List ℕ} {left x : ℕ} (w : ShiftingPotential n subtree rises d t u left) (first : (x ≡ lowest (bit left) n 0) × (x < n)) where
-    pub potential-out : Without n left x ((1 * 2 ^ x) % 2 ^ 64)
-    potential-out = without-lowest n left x (w .can .few) (w .can .word) first
-
-    pub potential-room : Room 32 rises d (at u x)
-    potential-room = w .can .room x (first .1) (potential-out .has)
-
-    pub potential-more : (k : ℕ) → k ≡ shifted rises d (at u x) → ShiftingPotential n subtree rises d t (set u x k) (left - (1 * 2 ^ x) % 2 ^ 64)
-    potential-more k e = record {
-      can = record {
-        few = w .can .few;
-        size = rw (length-set u x k) (w .can .size);
-        word = potential-out .word;
-        room = λ y l h.
-            case≡ y x
-            (λ g. clash (rw g at h) (potential-out .gone))
-            (λ g. rw (getD-set-other u x y k 0 g) (w .can .room y l (sym (potential-out .kept y l g) ∙ h)));
-      };
-      size = length-set u x k ∙ w .size;
-      same = λ y l.
-          case≡ y x
-          (λ g. rw (g, potential-out .gone, getD-set-same u x k 0 (omega (arith, w .can .size, w .can .few, first .1))) (e ∙ rw (potential-out .has) at (w .same x (first .1))))
-          (λ g. rw (potential-out .kept y l g, getD-set-other u x y k 0 g) (w .same y l));
-    }
-
-  pub potential-end : {u : List ℕ} {left : ℕ} → ShiftingPotential n subtree rises d t u left → left ≡ 0 → PotentialShifted subtree rises d t u n
-  potential-end {u} {left} w e = record { size = w .size; done = λ x l. rw (e, zero-div (2 ^ x)) at (w .same x l) }

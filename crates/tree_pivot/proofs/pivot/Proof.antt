@@ -32,14 +32,14 @@ element-copy-out-violation-2 c = let s : tie.Start = search in let can = s .pre 
 violation-requires : tie.Need-violation-requires
 violation-requires c κs = let s : tie.Start = search in enters-gap (s .pre .holds .0 .enters)
 
-mul-shift-potential : tie.Need-mul-shift-potential
-mul-shift-potential c = let s : tie.Start = search in let can = s .pre .holds .0 in omega (arith, can .a-low, can .basis .network .few)
+mul-shift-word : tie.Need-mul-shift-word
+mul-shift-word c = let s : tie.Start = search in let can = s .pre .holds .0 in omega (arith, can .a-low, can .basis .network .few)
 
-element-copy-out-shift-potential : tie.Need-element-copy-out-shift-potential
-element-copy-out-shift-potential c = let s : tie.Start = search in let can = s .pre .holds .0 in omega (arith, can .a-low, can .basis .network .few)
+element-copy-out-shift-word : tie.Need-element-copy-out-shift-word
+element-copy-out-shift-word c = let s : tie.Start = search in let can = s .pre .holds .0 in omega (arith, can .a-low, can .basis .network .few)
 
-shift-potential-requires : tie.Need-shift-potential-requires
-shift-potential-requires c κs =
+shift-word-requires : tie.Need-shift-word-requires
+shift-word-requires c κs =
     let d : tie.After-violation = search in
     let turned : tie.After-reverse-path = search in
     let moved : tie.After-move-subtotals = search in
@@ -52,7 +52,7 @@ returns c = λ lower upper lengths m v can.
     let turned : tie.After-reverse-path = search in
     let moved : tie.After-move-subtotals = search in
     let t = moved .move-subtotals .ensures in
-    cheaper-basis can (turned .reverse-path .ensures) (t .1 .1) (t .0) (t .1 .0) (d .violation .ensures) (c .shift-potential .ensures)
+    cheaper-basis can (turned .reverse-path .ensures) (t .1 .1) (t .0) (t .1 .0) (d .violation .ensures) (c .shift-word .ensures)
 
 pub pivot-spec : {M : Type 1} → statement M
 pivot-spec =
@@ -65,7 +65,7 @@ pivot-spec =
     mul-violation-2
     element-copy-out-violation-2
     violation-requires
-    mul-shift-potential
-    element-copy-out-shift-potential
-    shift-potential-requires
+    mul-shift-word
+    element-copy-out-shift-word
+    shift-word-requires
     returns)

@@ -1,27 +1,16 @@
 -- The steps of a pivot: what is kept of each vertex is brought from the old tree to the new one by walks along paths.
 use mathlib.Core.Path.{_≡_}
-use mathlib.Core.Bool.{Bool, true, false, cond}
+use mathlib.Core.Bool.{Bool, true}
 use mathlib.Core.List.{List}
-use Prim.Native.Nat.{ℕ, _+_, _-_, _^_, _≤_, _<_}
+use Prim.Native.Nat.{ℕ, _-_, _^_, _≤_, _<_}
 use lib.ListN.{length}
 use Rattle.arithmetic.specs.Sum.{sum}
 use Rattle.arithmetic.specs.Table.{at}
-use Rattle.arithmetic.specs.Mask.{mask}
-use Rattle.arithmetic.specs.Steps.Mask.{bit}
+use Rattle.vertex_set.specs.Steps.Shift.{shifted, Room}
 use Rattle.rooted_tree.specs.Chain.{below}
 use Rattle.rooted_tree.specs.Steps.Subtotal.{subtotal}
 use Rattle.tree_pivot.specs.Steps.Pivot.{Cut, Pivot}
 use Rattle.tree_pivot.specs.Steps.PathWalk.{CanWalk, passed, Stored, Handed}
-
--- u, raised or lowered by d
-abbrev pub shifted : Bool → ℕ → ℕ → ℕ
-shifted true d u = u + d
-shifted false d u = u - d
-
--- it is a word of w bits
-abbrev pub Room : ℕ → Bool → ℕ → ℕ → Type 0
-Room w true d u = u + d < 2 ^ w
-Room w false d u = d ≤ u
 
 -- ---- one table along a path
 
@@ -71,19 +60,3 @@ pub record CanMove (n r : ℕ) (p : List ℕ) (a b c j : ℕ) (t : List ℕ) : T
 pub record TotalsMoved (n r : ℕ) (p : List ℕ) (a b c : ℕ) (t u : List ℕ) : Type 0 where
   pub size : length u ≡ length t
   pub totals : (q f : ℕ → ℕ) → Pivot n r (at p) a b c q → Totals n (at p) f t → Totals n q f u
-
--- ---- the potential of a subtree, given by its mask
-pub record CanShiftPotential (n subtree : ℕ) (rises : Bool) (d : ℕ) (t : List ℕ) : Type 0 where
-  pub few : n ≤ 64
-  pub size : length t ≡ 64
-  pub word : subtree ≡ mask n (bit subtree)
-  pub room : (x : ℕ) → x < n → bit subtree x ≡ true → Room 32 rises d (at t x)
-
--- the number of x, raised or lowered by d if x is of the subtree
-abbrev pub shiftedWithin : (subtree : ℕ) → Bool → ℕ → List ℕ → ℕ → ℕ
-shiftedWithin subtree rises d t x = cond (bit subtree x) (shifted rises d (at t x)) (at t x)
-
--- the numbers of the subtree's vertices are raised or lowered by d
-pub record PotentialShifted (subtree : ℕ) (rises : Bool) (d : ℕ) (t u : List ℕ) (n : ℕ) : Type 0 where
-  pub size : length u ≡ length t
-  pub done : (x : ℕ) → x < n → at u x ≡ shiftedWithin subtree rises d t x

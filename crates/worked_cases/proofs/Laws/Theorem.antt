@@ -14,6 +14,7 @@ use Rattle.vertex_set.specs.Lowest.{lowest}
 use Rattle.rooted_tree.specs.Chain.{climb, below, depth}
 use Rattle.graph.specs.Graph.{joined, edgeLength}
 use Rattle.graph.specs.Checks.{verticesOk, listsFit, edgeFits, lengthFits, reached, connected, sizeChecks, edgeChecks}
+use Rattle.tree_walks.specs.MarkAncestors.{markRefusal, markedWords, markTable, markEach}
 use Rattle.tree_checks.specs.Checks.{parentsOk, treeEdgesOk, chainsOk, treeChecks}
 use Rattle.measures.specs.Checks.{totalOk, totalsEqual, measureChecks}
 use Rattle.given_tree.specs.Given.{parentsLong, answersOk}
@@ -34,6 +35,7 @@ use Rattle.listing_lines.specs.Lines.{entryLine, rowLines, planLines}
 use Rattle.listing.specs.Listing.{listing, evaluatedListing}
 use Rattle.worked_cases.specs.Figures.{sames, certifies, holds, reads, every}
 use Rattle.worked_cases.specs.Cases.{image-b, cases, images}
+use Rattle.worked_cases.specs.Marks.{marked, mark-cases}
 
 pub cases-hold : every holds cases && every reads images ≡ true
 unfolding all any sum sumℤ tab rows climb below depth joined edgeLength refusal verticesOk listsFit edgeFits lengthFits reached connected sizeChecks edgeChecks totalOk totalsEqual parentsOk treeEdgesOk chainsOk measureChecks treeChecks parentsLong answersOk imbalance potential treeCost flatMap least parentTables costs bestCost measuresLong solveRefusal lowest moved layer layers plan moves two sizeOk sectionOk layoutOk roomOk imageChecks byteOf recordBytes answerRefusal evaluatedRecord digits entryLine rowLines planLines evaluatedListing listing sames certifies holds reads every cases images matched
@@ -43,3 +45,8 @@ cases-hold = refl
 pub image-b-cost : (p : ℕ → ℕ) (u : ℕ → ℤ) → take 8 (answerRecord (image-b .image) p u) ≡ 4 ∷ 0 ∷ 0 ∷ 0 ∷ 0 ∷ 0 ∷ 0 ∷ 0 ∷ []
 unfolding all any sum sumℤ tab rows climb below joined edgeLength refusal treeChecks parentsOk treeEdgesOk chainsOk imbalance treeCost flatMap least parentTables costs bestCost two byteOf recordBytes
 image-b-cost p u = refl
+
+-- the climbs of document 02, by computation too
+pub marks-hold : every marked mark-cases ≡ true
+unfolding all tab climb below refusal verticesOk parentsOk chainsOk markRefusal markedWords markTable markEach sames every marked
+marks-hold = refl

@@ -1,6 +1,6 @@
 //! Evaluation of a spanning tree (the specification's weighing), as it is defined.
 
-use crate::checks::{check_chains, check_parents};
+use crate::checks::{check_chains, check_parents, refuse_if};
 use crate::problem::{Problem, Tree};
 
 /// What evaluating a tree gives.
@@ -46,6 +46,23 @@ pub fn told(n: usize, root: usize, parents: &[u32], v: usize) -> (u32, u32, u64)
     let below = (0..n).filter(|&y| tree.is_below(y, v));
     let word = below.map(|y| 1 << y).sum();
     (tree.depth(v) as u32, tree.parents[v] as u32, word)
+}
+
+/// The words after a climb from y, which sets its bit in the word of each x that y is below; or the refusal.
+///
+/// Any numbers and lists may be given.
+pub fn marked(n: usize, root: usize, parents: &[u32], y: usize, words: &[u64]) -> Result<Vec<u64>, u32> {
+    refuse_if(1, n == 0 || n > 64)?;
+    refuse_if(2, parents.len() != n || words.len() < n)?;
+    let parents = parents.iter().map(|&p| p as usize).collect();
+    let tree = Tree { root, parents };
+    check_parents(n, &tree)?;
+    check_chains(n, &tree)?;
+    let mut words = words.to_vec();
+    for x in (0..n).filter(|&x| y < n && tree.is_below(y, x)) {
+        words[x] |= 1 << y;
+    }
+    Ok(words)
 }
 
 /// For each vertex those below it.

@@ -5,7 +5,7 @@ use reference::flow::{least_cost, least_flow};
 use reference::random::{self, forest, Lengths, Measures, Random};
 use reference::random_lists::{faulty_lists, sound_problem, LIST_FAULTS, SHARED_FAULTS};
 use reference::random_trees::{best_tree, cheaper_neighbour, neighbour, stalled_tree};
-use reference::tree::{told, tree_cost};
+use reference::tree::{marked, told, tree_cost};
 use reference::{checks, Lists, Problem, Tree};
 
 const MANY: usize = usize::MAX;
@@ -140,6 +140,49 @@ fn told_of_a_tree() {
     assert_eq!(told(64, 63, &full, 64), unknown);
 }
 
+/// The same tree climbed by hand: a bit is added where it is not yet, from 4 none; the words from n on stay.
+#[test]
+fn marked_in_a_tree() {
+    let climb = |y: usize, words: &[u64]| marked(4, 1, &[1, 1, 0, 1], y, words);
+    assert_eq!(climb(2, &[0, 0, 0, 0]), Ok(vec![0b100, 0b100, 0b100, 0]));
+    assert_eq!(climb(1, &[0, 0, 0, 0]), Ok(vec![0, 0b10, 0, 0]));
+    assert_eq!(climb(3, &[5, 6, 7, 8, 9]), Ok(vec![5, 14, 7, 8, 9]));
+    for y in [4, 5, 64, MANY] {
+        assert_eq!(climb(y, &[1, 2, 3, 4, 5]), Ok(vec![1, 2, 3, 4, 5]));
+    }
+    let last = marked(64, 63, &[63; 64], 63, &[0; 64]).expect("a tree");
+    assert_eq!((last[62], last[63]), (0, 1 << 63));
+}
+
+/// Checks 1, 2, 8 and 10 in this order, whichever vertex it is.
+#[test]
+fn marked_or_refused() {
+    let refused: [(u32, usize, usize, &[u32], usize); 17] = [
+        (1, 0, 0, &[], 0),
+        (1, 65, 0, &[0; 65], 65),
+        (1, MANY, 4, &[0], 0),
+        (2, 3, 0, &[0, 0], 3),
+        (2, 3, 0, &[0, 0, 0, 0], 3),
+        (2, 3, 0, &[0, 0, 0], 2),
+        (2, 3, 3, &[0, 2, 1], 2),
+        (2, 3, 0, &[0, 2, 1, 3], 3),
+        (8, 3, 3, &[0, 0, 0], 3),
+        (8, 3, MANY, &[0, 0, 0], 3),
+        (8, 3, 0, &[0, 0, 3], 3),
+        (8, 3, 0, &[0, u32::MAX, 0], 3),
+        (8, 3, 0, &[1, 1, 0], 3),
+        (8, 3, 0, &[0, 1, 0], 3),
+        (8, 4, 0, &[0, 2, 1, 3], 4),
+        (10, 3, 0, &[0, 2, 1], 3),
+        (10, 4, 0, &[0, 2, 3, 1], 5),
+    ];
+    for (number, n, root, parents, places) in refused {
+        for y in [0, 1, 2, 64, MANY] {
+            assert_eq!(marked(n, root, parents, y, &vec![7; places]), Err(number));
+        }
+    }
+}
+
 /// Of every tree: each vertex is below as many as its depth and one more.
 #[test]
 fn told_keeps_its_laws() {
@@ -157,6 +200,11 @@ fn told_keeps_its_laws() {
             assert!(word >> v & 1 == 1 && parent == parents[v]);
             assert_eq!(all[parent as usize].2 & word, word);
         }
+        let mut words = vec![0; problem.n];
+        for y in (0..problem.n).rev() {
+            words = marked(problem.n, root, &parents, y, &words).expect("a tree");
+        }
+        assert!(all.iter().map(|t| t.2).eq(words));
     }
 }
 

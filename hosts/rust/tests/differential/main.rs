@@ -6,12 +6,14 @@
 //! | `tables` | distances by lists and by records, evaluating, judging, solving |
 //! | `reader` | `mover_read` |
 //! | `trees` | the tree by value |
+//! | `ancestors` | `mover_mark_ancestors` |
 //!
 //! Tests whose names begin with `wrong_` make calls wrong on purpose, and want the others to notice.
 //!
 //! `MOVER_CASES` sets the number of images of each kind, and all other numbers of cases by it; `MOVER_SEED`
 //! repeats a run. Under a memory checker: `hosts/rust/valgrind`.
 
+mod ancestors;
 mod images;
 mod jobs;
 mod lent;

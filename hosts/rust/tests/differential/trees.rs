@@ -19,7 +19,7 @@ fn library(tree: Tree, v: usize) -> (u32, u32, u64) {
 }
 
 /// Vertices to ask for: all there can be, and some that there cannot.
-fn asked(n: usize) -> impl Iterator<Item = usize> {
+pub fn asked(n: usize) -> impl Iterator<Item = usize> {
     let beyond = [n, 63, 64, 65, 1 << 8, 1 << 32, 1 << 63, usize::MAX];
     (0..n.min(66)).chain(beyond)
 }
@@ -39,7 +39,7 @@ fn try_tree(methods: Methods, tree: Tree) -> Result<u64, String> {
 }
 
 /// A tree as one comes out of the calls.
-fn sound_tree(random: &mut Random) -> Tree {
+pub fn sound_tree(random: &mut Random) -> Tree {
     let n = random.between(1, 64) as usize;
     let edges = random::connected(random, n, 2 * n, Lengths::Unit);
     let tree = random::spanning_tree(random, n, &edges);
@@ -49,7 +49,7 @@ fn sound_tree(random: &mut Random) -> Tree {
 
 /// How a tree may be damaged.
 #[derive(Clone, Copy, Debug, PartialEq, Eq)]
-enum Damage {
+pub enum Damage {
     None,
     /// Places from n on, which do not count.
     Rest,
@@ -68,7 +68,7 @@ enum Damage {
     Arbitrary,
 }
 
-const DAMAGES: [Damage; 11] = [
+pub const DAMAGES: [Damage; 11] = [
     Damage::None,
     Damage::Rest,
     Damage::Cycle,
@@ -83,7 +83,7 @@ const DAMAGES: [Damage; 11] = [
 ];
 
 /// A tree with this damage, or none if the drawn one has no room for it.
-fn damaged(random: &mut Random, damage: Damage) -> Option<Tree> {
+pub fn damaged(random: &mut Random, damage: Damage) -> Option<Tree> {
     let mut tree = sound_tree(random);
     let n = tree.n;
     let x = random.index(n);

@@ -10,7 +10,7 @@ use Rattle.tree_checks.proofs.checks.tree_refusal.Tie as tie
 chains-reach-requires : tie.Need-chains-reach-requires
 chains-reach-requires c κs =
     let s : tie.After-parents-ok = search in
-    (omega arith, parents-say _ _ _ (test-held _ _ (s .parents-ok .ensures) (search)))
+    ((omega arith, omega arith), parents-say _ _ _ (test-held _ _ (s .parents-ok .ensures) (search)))
 
 returns-4 : tie.Need-returns-4
 unfolding treeChecks

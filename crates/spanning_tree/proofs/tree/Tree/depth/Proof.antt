@@ -13,20 +13,24 @@ returns : tie.Need-returns
 unfolding depthOf
 returns c = cond-false _ _ _ (test-failed _ _ (c .before .is-valid .ensures) (c .if1 .taken))
 
-slice-aggregate-depth-of : tie.Need-slice-aggregate-depth-of
-slice-aggregate-depth-of c = search needs
+slice-aggregate-walk-up : tie.Need-slice-aggregate-walk-up
+slice-aggregate-walk-up c = search needs
 
-depth-of-requires : tie.Need-depth-of-requires
-depth-of-requires c κs =
+walk-up-requires : tie.Need-walk-up-requires
+walk-up-requires c κs =
     let s : tie.Start = search in
     let v : tie.Else1 = search in
-    let e : 64 ≡ length (s .args .self .parents) = slice-aggregate-depth-of c in
+    let e : 64 ≡ length (s .args .self .parents) = slice-aggregate-walk-up (c .before) in
     let k = valid-say _ _ _ _ (test-held _ _ (v .before .is-valid .ensures) (v .if1 .left)) in
-    ((omega arith, (omega arith, omega arith)), k .tree)
+    ((omega arith, (omega arith, (omega arith, omega arith))), k .tree)
 
 returns-2 : tie.Need-returns-2
 unfolding depthOf
-returns-2 c = let v : tie.Else1 = search in c .depth-of .ensures ∙ cond-true _ _ _ (test-held _ _ (v .before .is-valid .ensures) (v .if1 .left))
+returns-2 c =
+    let v : tie.Else1 = search in
+    let w : tie.After-walk-up = search in
+    w .walk-up .ensures .0 ∙ cond-true _ _ _ (test-held _ _ (v .before .is-valid .ensures) (v .if1 .left))
 
 pub depth-spec : {M : Type 1} → statement M
-depth-spec = tie.close (tie.spec (λ c κs. search needs) returns slice-aggregate-depth-of depth-of-requires returns-2)
+depth-spec =
+    tie.close (tie.spec (λ c κs. search needs) returns slice-aggregate-walk-up (λ c. search needs) walk-up-requires returns-2)

@@ -26,7 +26,7 @@ chains-reach-requires c κs =
     let s : tie.Start = search in
     let p : tie.After-parents-ok = search in
     let e : 64 ≡ length (s .args .self .parents) = slice-aggregate-chains-reach c in
-    (omega arith, parents-say _ _ _ (test-held _ _ (p .parents-ok .ensures) (search)))
+    ((omega arith, omega arith), parents-say _ _ _ (test-held _ _ (p .parents-ok .ensures) (search)))
 
 pub is-valid-spec : {M : Type 1} → statement M
 is-valid-spec =

@@ -20,9 +20,9 @@ subtree-masks-requires : tie.Need-subtree-masks-requires
 subtree-masks-requires c κs =
     let s : tie.Start = search in
     let v : tie.Else1 = search in
-    let e : 64 ≡ length (s .args .self .parents) = slice-aggregate-subtree-masks (c .before) in
+    let e : 64 ≡ length (s .args .self .parents) = slice-aggregate-subtree-masks (c .before .before) in
     let k = valid-say _ _ _ _ (test-held _ _ (v .before .is-valid .ensures) (v .if1 .left)) in
-    ((omega arith, (omega arith, omega arith)), k .tree)
+    ((omega arith, (omega arith, (omega arith, omega arith))), k .tree)
 
 mul-result : tie.Need-mul-result
 mul-result c = let v : tie.Else1 = search in let k = valid-say _ _ _ _ (test-held _ _ (v .before .is-valid .ensures) (v .if1 .left)) in omega arith
@@ -35,9 +35,10 @@ unfolding subtreeOf
 returns-2 c =
     let v : tie.Else1 = search in
     let h = test-held _ _ (v .before .is-valid .ensures) (v .if1 .left) in
-    c .before .subtree-masks .ensures .each _ (valid-say _ _ _ _ h .vertex) ∙ cond-true _ _ _ h
+    let w : tie.After-subtree-masks = search in
+    w .subtree-masks .ensures .1 .each _ (valid-say _ _ _ _ h .vertex) ∙ cond-true _ _ _ h
 
 pub subtree-spec : {M : Type 1} → statement M
 subtree-spec =
-    tie.close (tie.spec (λ c κs. search needs) returns slice-aggregate-subtree-masks (λ c. search needs) subtree-masks-requires
+    tie.close (tie.spec (λ c κs. search needs) returns slice-aggregate-subtree-masks (λ c. search needs) (λ c. search needs) subtree-masks-requires
     mul-result array-read-result returns-2)

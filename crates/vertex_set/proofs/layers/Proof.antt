@@ -2,9 +2,9 @@ use Prim.Native.Nat.{_-_, _≤_}
 use mathlib.Core.Path.{_≡_}
 use native.Mathlib.Omega.{arith}
 use Rattle.arithmetic.specs.Table.{at}
-use Rattle.plan_layers.proofs.Laws.Layering.{Gathered, gathered-none, gathered-more}
-use Rattle.plan_layers.proofs.gather_layers.Statement.{statement}
-use Rattle.plan_layers.proofs.gather_layers.Tie as tie
+use Rattle.vertex_set.proofs.Laws.Layers.{Gathered, gathered-none, gathered-more}
+use Rattle.vertex_set.proofs.layers.Statement.{statement}
+use Rattle.vertex_set.proofs.layers.Tie as tie
 
 abbrev Inv-loop : tie.InvT-loop
 Inv-loop n depth layers₀ x₀ layers x = (x ≤ n) × Gathered depth x layers
@@ -24,8 +24,8 @@ loop-again c = (omega arith, gathered-more (c .before .before .before .args .dep
 returns : tie.Need-returns Inv-loop μ-loop
 returns c = let e : c .before .loop .x ≡ c .before .before .args .n = omega arith in rw e at (c .before .loop .inv .1 .each)
 
-pub gather-layers-spec : {M : Type 1} → statement M
-gather-layers-spec =
+pub layers-spec : {M : Type 1} → statement M
+layers-spec =
     tie.close
     (tie.spec
     Inv-loop

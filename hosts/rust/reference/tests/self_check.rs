@@ -74,7 +74,10 @@ fn flat_where_nothing_moves() {
         problem.nu.clone_from(&problem.mu);
         assert!(evaluate(&problem, &tree).potential.iter().all(|&u| u == 0));
     }
-    assert!(10 * idle > 3 * edges && 10 * idle < 8 * edges, "{idle} of {edges}");
+    assert!(
+        10 * idle > 3 * edges && 10 * idle < 8 * edges,
+        "{idle} of {edges}"
+    );
 }
 
 #[test]

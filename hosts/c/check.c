@@ -1,6 +1,6 @@
 /* What the header promises and the example does not show: tables between guard places, every refusal number of every call with all
  * tables as lent, empty tables without an address, images at odd addresses, the writer of images, damaged trees, climbs in any order
- * on any words, and the stack that a call uses.
+ * on any words, every amount as a weight and back, weights of any bits, and the stack that a call uses.
  * A line for each group, and "N passed, M failed" last. */
 #define _POSIX_C_SOURCE 200112L
 #include "mover.h"
@@ -249,6 +249,7 @@ static void check_empty(void) {
   uint64_t seven = 7, cost = 99;
   uint32_t zero = 0, parent = 9, plan = 9, moves = 99, optimal = 99, distance = 9;
   int32_t u = 9;
+  float weight = 0.5f;
   mover_tree tree;
   expect(mover_distances(1, NULL, 0, NULL, 0, NULL, 0, &distance, 1) == 0 && distance == 0, "no edges", "mover_distances", 0);
   distance = 9;
@@ -263,6 +264,10 @@ static void check_empty(void) {
          "nothing at all", "mover_evaluate", 0);
   expect(mover_mark_ancestors(0, 0, NULL, 0, 0, NULL, 0) == 1, "nothing at all", "mover_mark_ancestors", 0);
   expect(mover_mark_ancestors(1, 0, NULL, 0, 0, NULL, 0) == 2, "no parents, no words", "mover_mark_ancestors", 0);
+  expect(mover_to_amounts(NULL, 0, NULL, 0) == 0 && mover_to_weights(NULL, 0, NULL, 0) == 0, "nothing at all", "mover_to_...", 0);
+  expect(mover_to_amounts(NULL, 0, &cost, 1) == 0 && mover_to_weights(NULL, 0, &weight, 1) == 0, "nothing given", "mover_to_...", 0);
+  expect(cost == 0 && weight == 0.5f, "nothing written", "mover_to_...", 0);
+  expect(mover_to_amounts(&weight, 1, NULL, 0) == 2 && mover_to_weights(&cost, 1, NULL, 0) == 2, "no room", "mover_to_...", 0);
   expect(mover_run(NULL, 0, NULL, 0) == 11, "nothing at all", "mover_run", 0);
   tree = mover_tree_new(3, 1, NULL, 0);
   expect(tree.n == 3 && tree.root == 1 && tree.parents[2] == 0 && mover_tree_parent(tree, 1) == 64, "no parents", "mover_tree_new", 0);
@@ -560,11 +565,230 @@ static void check_climbs(void) {
   check_refused_climbs();
 }
 
+/* ---- weights: floats by their bits */
+
+enum { ALL = 16777216, LONGEST = 1000, ONE = 0x3f800000 };
+
+/* The number that a weight is refused by, 0 if none, and its amount, told from the bits by whole numbers alone. A float with the exponent
+ * e > 0 is its 24 bits m, of which the first is left out, divided by 2^(150 - e): that makes 2m / 2^(127 - e) grains, under one if e < 103.
+ * Negative floats and what is no number have bits above those of 1. */
+static uint32_t grains_of(uint32_t bits, uint64_t *amount) {
+  uint32_t e = bits >> 23, doubled = 2 * (bits & 0x7fffff) + (e > 0 ? ALL : 0);
+  *amount = 0;
+  if (bits == 0 || bits == 0x80000000u) return 0;
+  if (bits > ONE) return 15;
+  if (e < 103 || doubled % (1u << (127 - e)) != 0) return 16;
+  *amount = doubled >> (127 - e);
+  return 0;
+}
+
+/* The bits of an amount's weight. */
+static uint32_t bits_of(uint64_t amount) {
+  uint32_t e = 127;
+  if (amount == 0) return 0;
+  for (; amount < ALL; amount *= 2) e--;
+  return e << 23 | (uint32_t)(amount / 2 % 0x800000);
+}
+
+/* The given list and the one to be filled, both between guard places. */
+static lent given, filled;
+
+/* Expects a call's number, all of the given block as it was, and of the other one all but what the call fills. */
+static void expect_turned(const char *name, uint32_t number, uint32_t wanted, const lent *before, size_t written) {
+  expect(number == wanted, name, "a number", number);
+  expect(!memcmp(&given, before, sizeof given), "the given list", name, number);
+  expect(kept_past(&filled, number == MOVER_OK ? written : 0), "the filled list's guards", name, number);
+}
+
+/* Weights in, with room for so many amounts; returns the number that is wanted. */
+static uint32_t check_to_amounts(const char *name, const uint32_t *bits, size_t count, size_t room) {
+  static lent before;
+  uint64_t *amounts = (uint64_t *)lend(&filled), amount;
+  uint8_t *weights = (uint8_t *)lend(&given);
+  uint32_t wanted = 0, number;
+  size_t i;
+  memcpy(weights, bits, 4 * count);
+  before = given;
+  for (i = 0; i < count && wanted != 15; i++) {
+    number = grains_of(bits[i], &amount);
+    if (number != 0) wanted = number;
+  }
+  if (room < count) wanted = 2;
+  number = mover_to_amounts((const float *)weights, count, amounts, room);
+  expect_turned(name, number, wanted, &before, 8 * count);
+  for (i = 0; i < count && number == MOVER_OK; i++) {
+    grains_of(bits[i], &amount);
+    expect(amounts[i] == amount, "an amount", name, (unsigned)i);
+  }
+  return wanted;
+}
+
+/* Amounts in, with room for so many weights. */
+static uint32_t check_to_weights(const char *name, const uint64_t *amounts, size_t count, size_t room) {
+  static lent before;
+  uint8_t *weights = (uint8_t *)lend(&filled);
+  uint64_t *list = (uint64_t *)lend(&given);
+  uint32_t wanted = 0, number, bits;
+  size_t i;
+  memcpy(list, amounts, 8 * count);
+  before = given;
+  for (i = 0; i < count; i++)
+    if (amounts[i] > ALL) wanted = 15;
+  if (room < count) wanted = 2;
+  number = mover_to_weights(list, count, (float *)weights, room);
+  expect_turned(name, number, wanted, &before, 4 * count);
+  for (i = 0; i < count && number == MOVER_OK; i++) {
+    memcpy(&bits, weights + 4 * i, 4);
+    expect(bits == bits_of(amounts[i]), "a weight", name, (unsigned)i);
+  }
+  return wanted;
+}
+
+static const struct marked {
+  const char *name;
+  uint32_t bits, number;
+  uint64_t amount;
+} marked[] = {
+    {"zero", 0, 0, 0},
+    {"negative zero", 0x80000000, 0, 0},
+    {"one grain", 0x33800000, 0, 1},
+    {"three grains", 0x34400000, 0, 3},
+    {"a half", 0x3f000000, 0, 8388608},
+    {"the float before 1", ONE - 1, 0, ALL - 1},
+    {"1", ONE, 0, ALL},
+    {"the float after 1", ONE + 1, 15, 0},
+    {"2", 0x40000000, 15, 0},
+    {"the greatest float", 0x7f7fffff, 15, 0},
+    {"infinity", 0x7f800000, 15, 0},
+    {"no number", 0x7fc00000, 15, 0},
+    {"no number that signals", 0x7f800001, 15, 0},
+    {"no number with a sign", 0xffc00000, 15, 0},
+    {"the negative subnormal next to 0", 0x80000001, 15, 0},
+    {"minus one grain", 0xb3800000, 15, 0},
+    {"-1", 0x80000000 + ONE, 15, 0},
+    {"minus infinity", 0xff800000, 15, 0},
+    {"the least subnormal", 1, 16, 0},
+    {"the greatest subnormal", 0x007fffff, 16, 0},
+    {"the least normal float", 0x00800000, 16, 0},
+    {"half a grain", 0x33000000, 16, 0},
+    {"the float before one grain", 0x337fffff, 16, 0},
+    {"the float after one grain", 0x33800001, 16, 0},
+    {"0.1", 0x3dcccccd, 16, 0},
+    {"the float before a half", 0x3effffff, 16, 0},
+};
+enum { MARKED = sizeof marked / sizeof marked[0] };
+
+/* Each marked weight alone, and each two of them among weights of amounts, first and last. */
+static void check_marked_weights(void) {
+  static const size_t lengths[4] = {2, 64, 65, LONGEST};
+  uint32_t list[LONGEST];
+  float tenth = 0.1f;
+  uint64_t amount;
+  size_t k, l, i, length;
+  expect(!memcmp(&tenth, &marked[MARKED - 2].bits, 4), "the bits of", "0.1f", 0);
+  for (k = 0; k < MARKED; k++) {
+    const struct marked *w = &marked[k];
+    expect(grains_of(w->bits, &amount) == w->number && amount == w->amount, "grains_of", w->name, (unsigned)amount);
+    expect(check_to_amounts(w->name, &w->bits, 1, 1) == w->number, w->name, "alone", 0);
+    expect(check_to_amounts(w->name, &w->bits, 1, 0) == 2, w->name, "and no room", 0);
+    for (l = 0; l < MARKED; l++) {
+      uint32_t one = w->number, other = marked[l].number;
+      uint32_t wanted = one == 15 || other == 15 ? 15 : one == 16 || other == 16 ? 16 : 0;
+      length = lengths[l % 4];
+      for (i = 0; i < length; i++) list[i] = bits_of(i * 4099 % (ALL + 1));
+      list[0] = w->bits;
+      list[length - 1] = marked[l].bits;
+      expect(check_to_amounts(w->name, list, length, length) == wanted, w->name, marked[l].name, (unsigned)length);
+      expect(check_to_amounts(w->name, list, length, length + 3) == wanted, w->name, "a longer list", (unsigned)length);
+      expect(check_to_amounts(w->name, list, length, length - 1) == 2, w->name, "a short list", (unsigned)length);
+    }
+  }
+  expect(check_to_amounts("no weight", list, 0, 3) == 0, "no weight", "a longer list", 0);
+}
+
+/* Marked amounts, in lists of each length with one of them last, and a list that is as long, longer, too short. */
+static void check_marked_amounts(void) {
+  static const uint64_t last[8] = {0, 1, ALL - 1, ALL, ALL + 1, 4294967296u, ((uint64_t)1 << 32) + 1, UINT64_MAX};
+  static const size_t lengths[5] = {1, 2, 64, 65, LONGEST};
+  uint64_t list[LONGEST];
+  size_t k, l, i;
+  expect(bits_of(0) == 0 && bits_of(1) == 0x33800000 && bits_of(3) == 0x34400000, "bits_of", "few grains", 0);
+  expect(bits_of(ALL / 2) == 0x3f000000 && bits_of(ALL - 1) == ONE - 1 && bits_of(ALL) == ONE, "bits_of", "many grains", 0);
+  for (k = 0; k < 8; k++)
+    for (l = 0; l < 5; l++) {
+      uint32_t wanted = last[k] > ALL ? 15 : 0;
+      for (i = 0; i < lengths[l]; i++) list[i] = i * 16411 % (ALL + 1);
+      list[lengths[l] - 1] = last[k];
+      expect(check_to_weights("amounts", list, lengths[l], lengths[l]) == wanted, "amounts", "as long", (unsigned)k);
+      expect(check_to_weights("amounts", list, lengths[l], lengths[l] + 3) == wanted, "amounts", "a longer list", (unsigned)k);
+      expect(check_to_weights("amounts", list, lengths[l], lengths[l] - 1) == 2, "amounts", "a short list", (unsigned)k);
+    }
+  expect(check_to_weights("no amount", list, 0, 3) == 0, "no amount", "a longer list", 0);
+  list[0] = ALL + 1;
+  expect(check_to_weights("amounts", list, LONGEST, LONGEST) == 15, "amounts", "the first one", 15);
+}
+
+/* A number with up to so many of its last bits dropped: small ones come up too. */
+static uint64_t draw_shorter(uint64_t number, size_t bits) {
+  return number >> draw_below(bits + 1);
+}
+
+/* Lists of any amounts and their weights, most of them with a few places changed: to any bits, or to those beside an amount's. */
+static void check_random_lists(void) {
+  static uint32_t bits[LONGEST];
+  static uint64_t amounts[LONGEST];
+  unsigned out[17] = {0}, in[17] = {0}, round;
+  for (round = 0; round < 4000; round++) {
+    size_t count = draw_below(round % 50 == 0 ? LONGEST + 1 : 70), changes = draw_below(4), room = count + draw_below(3), i;
+    for (i = 0; i < count; i++) bits[i] = bits_of(amounts[i] = draw_shorter(draw_below(ALL + 1), 24));
+    while (count > 0 && changes-- > 0) {
+      size_t place = draw_below(count);
+      bits[place] = draw_below(4) == 0 ? (uint32_t)draw() : bits[place] + (uint32_t)draw_below(3) - 1;
+      amounts[place] = draw_below(4) == 0 ? draw_shorter(draw(), 63) : ALL - 1 + draw_below(3);
+    }
+    if (count > 0 && draw_below(10) == 0) room = draw_below(count);
+    in[check_to_amounts("any weights", bits, count, room)]++;
+    out[check_to_weights("any amounts", amounts, count, room)]++;
+  }
+  expect(in[0] > 400 && in[2] > 200 && in[15] > 200 && in[16] > 400, "every number", "of weights", in[15]);
+  expect(out[0] > 400 && out[2] > 200 && out[15] > 400, "every number", "of amounts", out[15]);
+}
+
+/* Every amount out, and in again. */
+static void check_all_amounts(void) {
+  enum { PART = 4096 };
+  static uint64_t amounts[PART], again[PART];
+  static float weights[PART];
+  uint64_t first;
+  for (first = 0; first <= ALL; first += PART) {
+    size_t count = first + PART <= ALL ? PART : (size_t)(ALL - first) + 1, right = 0, i;
+    uint32_t bits;
+    for (i = 0; i < count; i++) amounts[i] = first + i;
+    expect(mover_to_weights(amounts, count, weights, count) == 0, "weights", "of amounts from", (unsigned)first);
+    for (i = 0; i < count; i++) {
+      memcpy(&bits, &weights[i], 4);
+      right += bits == bits_of(first + i);
+    }
+    expect(right == count, "right weights", "of amounts from", (unsigned)first);
+    expect(mover_to_amounts(weights, count, again, count) == 0, "amounts again", "from", (unsigned)first);
+    expect(!memcmp(amounts, again, 8 * count), "the same amounts again", "from", (unsigned)first);
+  }
+}
+
+static void check_weights(void) {
+  check_marked_weights();
+  check_marked_amounts();
+  check_random_lists();
+  check_all_amounts();
+}
+
+/* Every number but 14 has a text of its own. */
 static void check_texts(void) {
+  const char *none = mover_refusal_text(UINT32_MAX);
   uint32_t k, l;
-  for (k = 0; k < 14; k++)
-    for (l = 0; l <= k; l++) expect((strcmp(mover_refusal_text(k), mover_refusal_text(l + 1)) == 0) == (k == l + 1), "a text", "number", k);
-  expect(!strcmp(mover_refusal_text(14), mover_refusal_text(UINT32_MAX)), "no text", "number", 14);
+  for (k = 0; k < 17; k++)
+    for (l = 0; l < k; l++) expect(strcmp(mover_refusal_text(k), mover_refusal_text(l)) != 0, "a text", "number", k);
+  for (k = 0; k < 20; k++) expect(!strcmp(mover_refusal_text(k), none) == (k == 14 || k > 16), "no text", "number", k);
 }
 
 /* ---- the stack */
@@ -641,6 +865,18 @@ static uint32_t call_read(void) {
   return mover_read(patch.image, patch.length, a, 512, b, 512, lengths, 512, mu, 64, nu, 64, parents, 64, &n, &m, &root, &tree);
 }
 
+static uint32_t call_to_amounts(void) {
+  static float weights[LONGEST];
+  static uint64_t amounts[LONGEST];
+  return mover_to_amounts(weights, LONGEST, amounts, LONGEST);
+}
+
+static uint32_t call_to_weights(void) {
+  static uint64_t amounts[LONGEST];
+  static float weights[LONGEST];
+  return mover_to_weights(amounts, LONGEST, weights, LONGEST);
+}
+
 static uint32_t call_tree(void) {
   static mover_tree tree;
   tree = mover_tree_new(64, 0, patch.parents, 64);
@@ -667,6 +903,8 @@ static const struct use {
     {"mover_solve", call_solve, MOVER_STACK_SOLVE},
     {"mover_mark_ancestors", call_mark_ancestors, MOVER_STACK_MARK_ANCESTORS},
     {"mover_read", call_read, MOVER_STACK_READ},
+    {"mover_to_amounts", call_to_amounts, MOVER_STACK_TO_AMOUNTS},
+    {"mover_to_weights", call_to_weights, MOVER_STACK_TO_WEIGHTS},
     {"mover_tree_...", call_tree, MOVER_STACK_TREE},
     {"mover_run", call_run, MOVER_STACK_RUN},
     {"mover_run, one vertex", call_run_small, MOVER_STACK_RUN},
@@ -751,8 +989,8 @@ int main(void) {
   } groups[] = {
       {"accepted and refused problems", check_problems}, {"figures and long tables", check_figures}, {"empty tables", check_empty},
       {"the reader", check_reader},                      {"the entry", check_run},                   {"the writer of images", check_writer},
-      {"trees", check_trees},                            {"climbs", check_climbs},                   {"texts", check_texts},
-      {"stack", check_stack},
+      {"trees", check_trees},                            {"climbs", check_climbs},                   {"weights", check_weights},
+      {"texts", check_texts},                            {"stack", check_stack},
   };
   unsigned passed = 0, failed = 0;
   size_t k;

@@ -1,5 +1,5 @@
 /* Every call on one patch: distances, the best answer, a given tree and whether it is best, the tree's methods, climbs up it, the same
- * by an image, and a refusal. */
+ * by an image, a painting as weights, and a refusal. */
 #include "mover.h"
 
 #include <inttypes.h>
@@ -149,6 +149,26 @@ static void by_image(void) {
   printf("\n  stays at 1: %" PRIu32 "\n", mover_amount(record, N, 1, 1));
 }
 
+/* A painting as a paint tool holds it, in floats from 0 to 1: into grains, and back. */
+static void weights(void) {
+  static const float painted[N] = {0.5f, 0.25f, 0.125f, 0.0625f, 0.0f, 0.0625f}, tenth = 0.1f;
+  uint64_t amounts[N];
+  float back[N];
+  size_t x;
+  uint32_t number = mover_to_amounts(painted, N, amounts, N);
+  if (number == MOVER_OK) number = mover_to_weights(amounts, N, back, N);
+  if (number != MOVER_OK) {
+    refused(number);
+    return;
+  }
+  printf("  grains");
+  for (x = 0; x < N; x++) printf(" %" PRIu64, amounts[x]);
+  printf("\n  weights");
+  for (x = 0; x < N; x++) printf(" %g", (double)back[x]);
+  printf("\n");
+  refused(mover_to_amounts(&tenth, 1, amounts, N));
+}
+
 int main(void) {
   static const uint64_t unequal[N] = {0, 0, 0, 0, 0, 999};
   size_t e;
@@ -166,6 +186,8 @@ int main(void) {
   climbs();
   printf("the same by an image\n");
   by_image();
+  printf("a painting as weights\n");
+  weights();
   printf("unequal totals\n");
   best(before, unequal);
   return 0;

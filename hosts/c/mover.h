@@ -5,6 +5,8 @@
  * Two measures (paintings) of equal total, at most 16,777,216, put an amount on each vertex: mu before,
  * nu after. A plan says how much goes from which vertex to which; its cost is the sum of amount times
  * distance. The library finds a cheapest plan, or evaluates the plan of a spanning tree that is given.
+ * Amounts are whole numbers of grains. Weights as paint tools hold them, floats from 0 to 1, become amounts
+ * and amounts weights by calls of their own.
  *
  * Link one of two static archives, not both, for x86-64 Linux and its System V calling convention:
  *
@@ -53,6 +55,8 @@
 #define MOVER_STACK_SOLVE 16384
 #define MOVER_STACK_MARK_ANCESTORS 8192
 #define MOVER_STACK_READ 8192
+#define MOVER_STACK_TO_AMOUNTS 8192
+#define MOVER_STACK_TO_WEIGHTS 8192
 #define MOVER_STACK_TREE 8192 /* each of mover_tree_new, _depth, _parent, _subtree */
 #define MOVER_STACK_RUN 40960
 
@@ -61,7 +65,8 @@ extern "C" {
 #endif
 
 /* The numbers that calls return. Checks run in the order 11, 12, 13 and then 1 to 10; each call says where
- * it stops. The first that fails gives the number. */
+ * it stops. The calls on weights have 2, 15 and 16, in this order. The first check that fails gives the
+ * number. No call returns 14. */
 enum {
   MOVER_OK = 0,
   MOVER_REFUSED_VERTEX_COUNT = 1,    /* n is 0 or above 64 */
@@ -80,12 +85,15 @@ enum {
   MOVER_REFUSED_IMAGE_SIZE = 11,     /* the image has under 36 or over 65,536 bytes */
   MOVER_REFUSED_SECTION_PLACE = 12,  /* a section starts before byte 36 or before its forerunner's end, or
                                         ends past the image */
-  MOVER_REFUSED_SECTION_LENGTH = 13  /* byte 1 is not 0, or a section's length does not fit n and m */
+  MOVER_REFUSED_SECTION_LENGTH = 13, /* byte 1 is not 0, or a section's length does not fit n and m */
+  MOVER_REFUSED_WEIGHT_RANGE = 15,   /* a weight is below 0, above 1 or no number, or an amount that is to be a
+                                        weight is above 16,777,216 */
+  MOVER_REFUSED_WEIGHT_GRAINS = 16   /* a weight is no whole number of grains */
 };
 
 /* A number as a line of text. */
 static inline const char *mover_refusal_text(uint32_t number) {
-  static const char *const texts[14] = {
+  static const char *const texts[17] = {
       "accepted",
       "the number of vertices is 0 or above 64",
       "there are more than 512 edges, or a table has the wrong length",
@@ -100,8 +108,11 @@ static inline const char *mover_refusal_text(uint32_t number) {
       "the image has under 36 or over 65536 bytes",
       "a section of the image is out of order or out of bounds",
       "byte 1 of the image is not 0, or a section has the wrong length",
+      "no such number",
+      "a weight is below 0, above 1 or no number, or an amount is above 16777216",
+      "a weight is no whole number of grains",
   };
-  return number < 14 ? texts[number] : "no such number";
+  return number < 17 ? texts[number] : "no such number";
 }
 
 /* ---- Calls over tables (libhost_calls.a)
@@ -190,6 +201,25 @@ uint32_t mover_read(const uint8_t *image, size_t image_len, uint32_t *a, size_t 
                     size_t b_len, uint32_t *lengths, size_t lengths_len, uint64_t *mu, size_t mu_len,
                     uint64_t *nu, size_t nu_len, uint32_t *parents, size_t parents_len, size_t *n, size_t *m,
                     size_t *root, uint32_t *tree);
+
+/* ---- Weights (libhost_calls.a)
+ *
+ * A weight is a float from 0 to 1, of 32 bits as IEEE 754 has them; a weight of 1 is 16,777,216 grains. Since a
+ * total is at most so many, the weights of a painting sum to at most 1.
+ * A list may have any length, 0 and above 64 too; the answer list is at least as long, and a longer one keeps
+ * its rest. Nothing is rounded: each amount's weight gives the amount again.
+ * Subnormal weights count by their value as long as the processor's denormals-are-zero mode is off, as it is
+ * when a program starts.
+ */
+
+/* The amounts of weights: amounts[i] becomes weights[i] times 16,777,216, exactly; negative zero gives 0.
+ * Refuses by 2 if `amounts` is shorter than `weights`; by 15 if some weight is below 0, above 1 or no number;
+ * then by 16 if some weight is no whole number of grains, as 0.1f is none. */
+uint32_t mover_to_amounts(const float *weights, size_t weights_len, uint64_t *amounts, size_t amounts_len);
+
+/* The weights of amounts: weights[i] becomes amounts[i] divided by 16,777,216, exactly; 0 gives positive zero.
+ * Refuses by 2 if `weights` is shorter than `amounts`; then by 15 if some amount is above 16,777,216. */
+uint32_t mover_to_weights(const uint64_t *amounts, size_t amounts_len, float *weights, size_t weights_len);
 
 /* ---- Trees by value (libhost_calls.a) */
 

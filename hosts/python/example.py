@@ -64,6 +64,12 @@ def main() -> None:
     print(f"another tree costs {own.cost / GRAINS / 100:.2f}")
     print(f"  is it best? {weight_mover.is_optimal(edges, mu, nu, root, parents)}")
 
+    # Floats are weights as paint tools hold them: whole grains, and 1 in all at most.
+    before, after = [0.75, 0.25] + 7 * [0.0], 7 * [0.0] + [0.5, 0.5]
+    stroke = weight_mover.solve(edges, before, after)
+    gives = weight_mover.to_weights(stroke.table[0])
+    print(f"of a stroke, vertex 0 gives {gives[7]} to 7 and {gives[8]} to 8")
+
     # What is not sound is refused, with the reason.
     try:
         weight_mover.solve(edges, mu, [4000] + 8 * [0])

@@ -2,7 +2,8 @@
 
 import random
 import struct
-from typing import Dict, List, NamedTuple, Set, Tuple
+from fractions import Fraction
+from typing import Any, Dict, List, NamedTuple, Set, Tuple
 
 from weight_mover import Answer, Edge, Entry
 
@@ -135,6 +136,23 @@ def marked(parents: List[int], y: int, words: List[int]) -> List[int]:
     return [word | 1 << y if x in met else word for x, word in enumerate(words)]
 
 
+def in_grains(weights: List[Any]) -> Tuple[int, List[int]]:
+    """The number that refuses the weights, 0 if none does, and their amounts."""
+    if not all(0 <= weight <= 1 for weight in weights):  # no number fails this too
+        return 15, []
+    amounts = [Fraction(weight) * 2**24 for weight in weights]
+    if any(amount.denominator > 1 for amount in amounts):
+        return 16, []
+    return 0, [int(amount) for amount in amounts]
+
+
+def as_weights(amounts: List[int]) -> Tuple[int, List[Fraction]]:
+    """The number that refuses the amounts, 0 if none does, and their weights."""
+    if any(amount > 2**24 for amount in amounts):
+        return 15, []
+    return 0, [Fraction(amount, 2**24) for amount in amounts]
+
+
 def faults(problem: Problem, best: Answer, apart: List[List[int]]) -> List[str]:
     """What does not hold of a best answer, of all that is asked of one."""
     n, u, table = problem.n, best.potential, best.table
@@ -205,6 +223,52 @@ def random_problem(draw: random.Random) -> Problem:
     mu = random_painting(draw, n, total)
     nu = mu if draw.random() < 0.1 else random_painting(draw, n, total)
     return Problem(random_edges(draw, n), mu, list(nu))
+
+
+def single(bits: int) -> float:
+    """The 32-bit float of these bits."""
+    return float(struct.unpack("<f", struct.pack("<I", bits))[0])
+
+
+def random_single(draw: random.Random) -> float:
+    """Of any bits, of any from 0 to 1, or an amount's weight or one next to it."""
+    kind = draw.randrange(3)
+    if kind == 0:
+        return single(draw.getrandbits(32))
+    if kind == 1:
+        return single(draw.randrange(0x3F80_0010))
+    amount = draw.randint(1, 2**24) >> draw.randrange(24)
+    (bits,) = struct.unpack("<I", struct.pack("<f", amount / 2**24))
+    return single((bits + draw.randint(-1, 1)) % 2**32)
+
+
+def random_double(draw: random.Random) -> float:
+    """Of any bits, or next to an amount's weight, closer than any 32-bit float."""
+    amount = draw.randint(0, 2**24) >> draw.randrange(24)
+    (bits,) = struct.unpack("<Q", struct.pack("<d", amount / 2**24))
+    bits += draw.choice([1, -1, 2**20])
+    bits = draw.choice([bits, bits, draw.getrandbits(64)])
+    return float(struct.unpack("<d", struct.pack("<Q", bits % 2**64))[0])
+
+
+def random_weights(draw: random.Random) -> List[float]:
+    """Weights of amounts, of which none, one or two are changed to anything."""
+    n = draw.choice([1, 2, 64, 65, draw.randint(1, 200)])
+    weights = [draw.randint(0, 2**24) / 2**24 for _ in range(n)]
+    for _ in range(draw.randrange(3)):
+        change = draw.choice([random_single, random_double])
+        weights[draw.randrange(n)] = change(draw)
+    return weights
+
+
+def random_amounts(draw: random.Random) -> List[int]:
+    """Amounts up to 16,777,216, and at times one that may be above."""
+    n = draw.choice([1, 2, 64, 65, draw.randint(1, 200)])
+    amounts = [draw.randint(0, 2**24) >> draw.randrange(24) for _ in range(n)]
+    if draw.random() < 0.5:
+        above = draw.choice([2**24, 2**24 + 1, draw.getrandbits(64)])
+        amounts[draw.randrange(n)] = above
+    return amounts
 
 
 def hang(n: int, pairs: List[Tuple[int, int]], root: int) -> List[int]:

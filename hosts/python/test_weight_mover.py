@@ -1,11 +1,11 @@
-"""Tests of the Python module: marked cases, refusals, inputs, and random patches.
+"""Tests of the Python module: marked cases, refusals, inputs, random patches, weights.
 
     python3 test_weight_mover.py
 
 Answers on random patches are held to the definitions, which reference.py writes out,
-and, where networkx is installed, to its network simplex and shortest paths. MOVER_CASES
-sets the number of patches, at least 200, and MOVER_SEED repeats a run. The last line is
-"N passed, M failed".
+and, where networkx is installed, to its network simplex and shortest paths; weights to
+exact fractions. MOVER_CASES sets the number of patches, at least 200, and MOVER_SEED
+repeats a run. The last line is "N passed, M failed".
 """
 
 import array
@@ -15,6 +15,7 @@ import dataclasses
 import doctest
 import importlib
 import io
+import math
 import os
 import pickle
 import random
@@ -24,6 +25,7 @@ import sys
 import time
 import unittest
 from concurrent.futures import ThreadPoolExecutor
+from fractions import Fraction
 from typing import Any, Callable, Dict, Iterator, List, NamedTuple, Tuple, Type
 from unittest import mock
 
@@ -31,13 +33,20 @@ import example
 import weight_mover as wm
 from reference import (
     Problem,
+    as_weights,
     entries,
     faults,
+    in_grains,
     marked,
     moves,
+    random_amounts,
+    random_double,
     random_problem,
+    random_single,
     random_tree,
+    random_weights,
     rerooted,
+    single,
     spread,
     swapped,
     tree_figures,
@@ -64,9 +73,23 @@ def problems(
     salt: str, count: int = CASES
 ) -> Iterator[Tuple[str, random.Random, Problem]]:
     """Random problems, each with words that name it and its generator."""
+    for name, draw in draws(salt, count):
+        yield name, draw, random_problem(draw)
+
+
+def draws(salt: str, count: int) -> Iterator[Tuple[str, random.Random]]:
+    """Generators, each with words that name it."""
     for index in range(count):
         draw = random.Random(f"{SEED} {salt} {index}")
-        yield f"seed {SEED}, {salt} {index}", draw, random_problem(draw)
+        yield f"seed {SEED}, {salt} {index}", draw
+
+
+def outcome(call: Callable[..., Any], *arguments: Any) -> Tuple[int, Any]:
+    """The number that a call refuses by and no list, or 0 and what it gives."""
+    try:
+        return 0, call(*arguments)
+    except wm.Refusal as refusal:
+        return refusal.number, []
 
 
 # ---- The marked cases
@@ -75,6 +98,14 @@ RING = [(0, 1, 1), (0, 3, 1), (1, 2, 1), (2, 3, 1)]
 LINE_OF_6 = [(x, x + 1, 1) for x in range(5)]
 G_PLAN = [(0, 2, 1), (1, 2, 1), (5, 2, 2), (5, 3, 2), (5, 4, 2)]
 FULL = 16_777_216
+GRAIN = 2.0**-24
+
+# Weights and their amounts.
+WEIGHTS = [
+    (0.0, 0), (GRAIN, 1), (3 * GRAIN, 3), (2.0**-12, 4096), (0.125, FULL // 8),
+    (0.5 - GRAIN, FULL // 2 - 1), (0.5, FULL // 2), (0.5 + GRAIN, FULL // 2 + 1),
+    (0.75, 3 * FULL // 4), (1 - GRAIN, FULL - 1), (1.0, FULL),
+]  # fmt: skip
 
 
 class Case(NamedTuple):
@@ -243,10 +274,45 @@ class MarkedCases(unittest.TestCase):
                     masks = wm.mark_ancestors(n, case.root, case.parents, y, masks)
                 self.assertEqual(masks, [tree.subtree(x) for x in range(n)])
 
+    def test_to_amounts(self) -> None:
+        for weight, amount in WEIGHTS + [(-0.0, 0), (0, 0), (1, FULL), (True, FULL)]:
+            for n in (1, 2, 64, 65, 1000):
+                got = wm.to_amounts(n * [weight])
+                self.assertEqual(got, n * [amount])
+                self.assertEqual({type(number) for number in got}, {int})
+        quarters: List[Any] = [Fraction(3, 4), 0.25, 0, 1.0]
+        self.assertEqual(wm.to_amounts(quarters), [3 * FULL // 4, FULL // 4, 0, FULL])
+        self.assertEqual(wm.to_amounts([]), [])
+
+    def test_to_weights(self) -> None:
+        for weight, amount in WEIGHTS:
+            for n in (1, 2, 64, 65, 1000):
+                got = wm.to_weights(n * [amount])
+                self.assertEqual(got, n * [weight])
+                self.assertEqual({type(number) for number in got}, {float})
+        self.assertEqual(math.copysign(1, wm.to_weights([0])[0]), 1)
+        self.assertEqual(wm.to_weights([True, 3]), [GRAIN, 3 * GRAIN])
+        self.assertEqual(wm.to_weights([]), [])
+
 
 # ---- Refusals
 
 PATH = [(0, 1, 1), (1, 2, 1)]
+NAN, INFINITY = float("nan"), float("inf")
+
+# Weights that are refused: 32-bit floats, and then numbers between these or beyond.
+BEYOND: List[Any] = [
+    single(0x8000_0001), -GRAIN, -1.0, -INFINITY, single(0x3F80_0001), 2.0,
+    single(0x7F7F_FFFF), INFINITY, NAN, single(0xFFC0_0000), -1, 2,
+    -5e-324, -1e-60, 1.0000000001, 1 + 2**-52, 1e39, -1e300, 10**30 + 1, 10**400,
+    -(10**400), Fraction(-1, 10**400), Fraction(10**40 + 1, 10**40), Fraction(10**400),
+]  # fmt: skip
+BETWEEN: List[Any] = [
+    single(1), single(0x007F_FFFF), single(0x0080_0000), GRAIN / 2, 1.5 * GRAIN,
+    single(0x337F_FFFF), single(0x3380_0001), single(0x3DCC_CCCD), single(0x3EFF_FFFF),
+    5e-324, 1e-60, 0.1, 0.7, GRAIN + 2**-76, 0.5 + 2**-53, 1 - 2**-53, Fraction(1, 3),
+    Fraction(10**400 - 1, 10**400),
+]  # fmt: skip
 
 
 class Refusals(unittest.TestCase):
@@ -427,6 +493,69 @@ class Refusals(unittest.TestCase):
                 got = wm._call("mover_mark_ancestors", n, root, tables, y, words)
                 self.assertEqual((got, list(words)), (number, lent))
 
+    def by_paintings(self, number: int, painting: List[Any]) -> None:
+        """Refused in place of mu or of nu, before all that the calls check."""
+        for given in (([], painting, [3]), ([(0, 0, 0)], [3], painting)):
+            self.refused(number, wm.solve, *given)
+            self.refused(number, wm.evaluate, *given, 0, [])
+            self.refused(number, wm.is_optimal, *given, 0, [])
+            self.refused(number, wm.write, *given)
+
+    def test_15_weights(self) -> None:
+        for wrong in BEYOND:
+            self.refused(15, wm.to_amounts, [wrong])
+            for other in (0.0, 1.0, 0.1, 1e-60):
+                self.refused(15, wm.to_amounts, 64 * [other] + [wrong])
+                self.refused(15, wm.to_amounts, [wrong] + 999 * [other])
+            if isinstance(wrong, float):
+                self.by_paintings(15, [0.1, wrong, 0.5])
+        for above in (FULL + 1, 2**32, 2**32 + 1, 2**64 - 1):
+            self.refused(15, wm.to_weights, [above])
+            self.refused(15, wm.to_weights, 65 * [FULL] + [above, 0])
+
+    def test_16_weights(self) -> None:
+        for wrong in BETWEEN:
+            self.refused(16, wm.to_amounts, [wrong])
+            for other in (0.0, 1.0):
+                self.refused(16, wm.to_amounts, 64 * [other] + [wrong])
+                self.refused(16, wm.to_amounts, [wrong] + 999 * [other])
+            if isinstance(wrong, float):
+                self.by_paintings(16, [0.5, wrong, -0.0])
+        self.refused(15, wm.solve, [], [-0.5], [0.1])
+        self.refused(16, wm.solve, [], [0.1], [-0.5])
+
+    def turned(self, number: int, call: str, given: Any, lent: Any, new: Any) -> None:
+        """A call into lent places: the first ones are new, nothing else changes."""
+        lent[:] = range(9, 9 + len(lent))
+        wanted, before = list(new) + list(lent)[len(new) :], bytes(given)
+        got = wm._call(call, given, lent)
+        self.assertEqual((got, list(lent)), (number, wanted), (call, list(given)))
+        self.assertEqual(bytes(given), before, (call, list(given)))
+
+    def test_lists_of_weights(self) -> None:
+        """2, 15 and 16 in this order. What is refused is kept as lent."""
+        floats: List[Tuple[int, List[float], int]] = [
+            (0, [], 3), (0, [0.5], 1), (0, [0.5, 1.0], 5), (0, 65 * [0.25], 70),
+            (2, [0.5], 0), (2, [0.5, 0.5], 1), (2, [2.0, 0.1], 1), (2, 65 * [NAN], 64),
+            (15, [2.0, 0.1], 2), (15, [0.1, 2.0], 3), (15, 999 * [0.1] + [NAN], 1000),
+            (16, [0.5, 0.1], 2), (16, 64 * [0.5] + [GRAIN / 2], 70),
+        ]  # fmt: skip
+        for number, weights, places in floats:
+            given: Any = (ctypes.c_float * len(weights))(*weights)
+            new: List[Any] = [FULL * x for x in weights] if number == 0 else []
+            lent: Any = (ctypes.c_uint64 * places)()
+            self.turned(number, "mover_to_amounts", given, lent, new)
+        grains: List[Tuple[int, List[int], int]] = [
+            (0, [], 3), (0, [FULL], 1), (0, [0, FULL], 5), (0, 65 * [7], 70),
+            (2, [7], 0), (2, [7, 7], 1), (2, [FULL + 1, 7], 1), (2, 65 * [2**32], 64),
+            (15, [FULL + 1], 1), (15, [FULL, 7, FULL + 1], 5), (15, 65 * [2**63], 70),
+        ]  # fmt: skip
+        for number, amounts, places in grains:
+            given = (ctypes.c_uint64 * len(amounts))(*amounts)
+            new = [x / FULL for x in amounts] if number == 0 else []
+            lent = (ctypes.c_float * places)()
+            self.turned(number, "mover_to_weights", given, lent, new)
+
     def test_exception(self) -> None:
         with self.assertRaises(ValueError) as caught:
             wm.solve([], [3], [4])
@@ -445,12 +574,12 @@ class Header(unittest.TestCase):
             self.text = file.read()
 
     def test_texts(self) -> None:
-        block = re.search(r"texts\[14\] = \{(.*?)\};", self.text, re.S)
+        block = re.search(r"texts\[17\] = \{(.*?)\};", self.text, re.S)
         assert block is not None
         texts = re.findall(r'"(.*)"', block.group(1))
-        self.assertEqual(len(texts), 14)
-        self.assertEqual([wm.refusal_text(k) for k in range(14)], texts)
-        for number in (14, 2**32 - 1, -1):
+        self.assertEqual(len(texts), 17)
+        self.assertEqual([wm.refusal_text(k) for k in range(17)], texts)
+        for number in (14, 17, 2**32 - 1, -1):
             self.assertEqual(wm.refusal_text(number), "no such number")
 
     def test_constants(self) -> None:
@@ -466,6 +595,7 @@ class Header(unittest.TestCase):
 
     def test_signatures(self) -> None:
         kinds: Dict[str, Any] = {
+            "float": ctypes.c_float,
             "uint8_t": ctypes.c_uint8,
             "int32_t": ctypes.c_int32,
             "uint32_t": ctypes.c_uint32,
@@ -525,6 +655,8 @@ class Inputs(unittest.TestCase):
             self.assertEqual(got.cost, wanted)
             masks = wm.mark_ancestors(4, 3, kind([1, 2, 3, 3]), 1, kind([0, 0, 0, 8]))
             self.assertEqual(masks, [0, 2, 2, 10])
+            self.assertEqual(wm.to_weights(kind([5, 0])), [5 * GRAIN, 0])
+            self.assertEqual(wm.to_amounts(kind([1, 0])), [FULL, 0])
         columns: Any = memoryview(bytes(sum(edges, ()))).cast("B", [len(edges), 3])
         self.assertEqual(wm.solve(columns, mu, nu).cost, wanted)
         image = wm.write(edges, mu, nu)
@@ -534,6 +666,55 @@ class Inputs(unittest.TestCase):
             self.assertEqual(wm.run(memoryview(form)).cost, wanted)
         doubled = bytes(byte for byte in image for _ in range(2))
         self.assertEqual(wm.run(memoryview(doubled)[::2]).cost, wanted)
+
+    def test_weights(self) -> None:
+        """Lists and buffers of floats are weights, for a painting too."""
+        kinds: List[Callable[[List[float]], Any]] = [
+            list,
+            tuple,
+            iter,
+            lambda weights: array.array("f", weights),
+            lambda weights: array.array("d", weights),
+            lambda weights: memoryview(array.array("f", weights)),
+            lambda weights: (ctypes.c_float * len(weights))(*weights),
+            lambda weights: (ctypes.c_double * len(weights))(*weights),
+        ]
+        for kind in kinds:
+            mu, nu = [0.5, 0.25, -0.0], [0.0, 0.125, 0.625]
+            amounts = [FULL // 2, FULL // 4, 0], [0, FULL // 8, 5 * FULL // 8]
+            self.assertEqual(wm.to_amounts(kind(mu)), amounts[0])
+            best = wm.solve(PATH, *amounts)
+            self.assertEqual(wm.solve(PATH, kind(mu), kind(nu)), best)
+            self.assertEqual(wm.solve(PATH, kind(mu), amounts[1]), best)
+            self.assertEqual(wm.solve(PATH, amounts[0], kind(nu)), best)
+            self.assertEqual((mu, nu), ([0.5, 0.25, -0.0], [0.0, 0.125, 0.625]))
+
+    def test_mixtures(self) -> None:
+        """Integers and floats in one painting: grains or weights?"""
+        tree: Any = (0, [0, 0, 1])
+        for wrong in ([3, 0.5, 0.5], [0.5, 0.5, 0], [True, 0.0, 0.0], [0.5, "1", 0.5]):
+            for given in ((PATH, wrong, [0, 0, 1]), (PATH, [1.0, 0.0, 0.0], wrong)):
+                calls: List[Tuple[Callable[..., Any], Any]] = [
+                    (wm.solve, ()),
+                    (wm.evaluate, tree),
+                    (wm.is_optimal, tree),
+                    (wm.write, ()),
+                ]
+                for call, more in calls:
+                    with self.assertRaisesRegex(TypeError, "in one painting"):
+                        call(*given, *more)
+        with self.assertRaisesRegex(TypeError, "nu: 3 and 0.5 in one painting"):
+            wm.solve(PATH, [1, 0, 0], [0.5, 3, 7])
+
+    def test_no_weights(self) -> None:
+        others: List[Any] = ["0.5", b"1", None, [0.5], 0.5j, object(), array.array("f")]
+        for wrong in others:
+            for weights in ([wrong], [0.5, wrong], [wrong, 2.0]):
+                with self.assertRaisesRegex(TypeError, "is not an integer or float"):
+                    wm.to_amounts(weights)
+        for other in (0.5, 1, None, {0: 1}, {1}):
+            self.assertRaises(TypeError, wm.to_amounts, other)
+            self.assertRaises(TypeError, wm.to_weights, other)
 
     def calls(self) -> List[Tuple[str, Callable[[Any], Any], int]]:
         """Each place for a number, a call with that number there, and the largest."""
@@ -565,6 +746,7 @@ class Inputs(unittest.TestCase):
             ("parent", lambda x: wm.mark_ancestors(2, 0, [0, x], 1, [0, 0]), u32),
             ("y", lambda x: wm.mark_ancestors(2, 0, [0, 0], x, [0, 0]), u64),
             ("mask", lambda x: wm.mark_ancestors(2, 0, [0, 0], 1, [0, x]), u64),
+            ("amount", lambda x: wm.to_weights([0, x]), u64),
             ("end in an image", lambda x: wm.write([(0, x, 1)], mu, nu), 255),
             ("length in an image", lambda x: wm.write([(0, 1, x)], mu, nu), 65_535),
             ("mu in an image", lambda x: wm.write(edges, [x, 0], nu), u32),
@@ -579,9 +761,11 @@ class Inputs(unittest.TestCase):
                 with self.subTest(place=place, number=wrong):
                     with self.assertRaisesRegex(OverflowError, f"{wrong} is not from"):
                         call(wrong)
-            for other in (1.0, "1", None, [1], float("nan"), b"1"):
+            for other in (1.0, "1", None, [1], NAN, b"1", Fraction(1)):
+                mixed = isinstance(other, float) and place[:2] in ("mu", "nu")
+                reason = "in one painting" if mixed else "is not an integer"
                 with self.subTest(place=place, number=other):
-                    with self.assertRaisesRegex(TypeError, "is not an integer"):
+                    with self.assertRaisesRegex(TypeError, reason):
                         call(other)
             with self.subTest(place=place), contextlib.suppress(wm.Refusal):
                 call(limit)  # it fits, and the library is asked
@@ -636,13 +820,41 @@ class Inputs(unittest.TestCase):
         self.assertEqual(type(wm.solve(records, np.array(mu), nu).cost), int)
 
     @unittest.skipUnless(np, "numpy is not installed")
+    def test_numpy_weights(self) -> None:
+        mu, nu = [0.5, 0.25, -0.0], [0.0, 0.125, 0.625]
+        best = wm.solve(PATH, mu, nu)
+        for kind in ("f2", "f4", ">f4", "f8", "g", "O"):
+            before, after = np.array(list(zip(mu, nu)), dtype=kind).T
+            self.assertEqual(wm.to_amounts(before), [FULL // 2, FULL // 4, 0])
+            self.assertEqual(wm.solve(PATH, before, after), best)
+            self.assertEqual(wm.solve(PATH, list(before), nu), best)  # numpy's scalars
+            self.assertEqual(wm.solve(PATH, wm.to_amounts(mu), after), best)
+        self.assertEqual(wm.to_amounts(np.array([1, 0], dtype="u1")), [FULL, 0])
+        self.assertEqual(wm.to_amounts([np.int8(1), np.float32(GRAIN)]), [FULL, 1])
+        weights = np.array(wm.to_weights(range(1000)), dtype="f4")
+        self.assertEqual(wm.to_amounts(weights), list(range(1000)))
+        for wrong, number in (
+            (np.nextafter(np.longdouble(1), 2), 15), (np.longdouble("1e4000"), 15),
+            (-np.longdouble("1e-4000"), 15), (np.float16(-1), 15), (np.int64(2), 15),
+            (np.nextafter(np.longdouble(1), 0), 16), (np.longdouble("1e-4000"), 16),
+            (np.float32(0.1), 16), (np.float64(0.1), 16), (np.float16(0.1), 0),
+        ):  # fmt: skip
+            self.assertEqual(outcome(wm.to_amounts, [wrong])[0], number, wrong)
+        with self.assertRaisesRegex(TypeError, "in one painting"):
+            wm.solve(PATH, [np.float32(1), np.int64(0), np.float32(0)], nu)
+        with self.assertRaises(TypeError):
+            wm.solve(PATH, np.array([mu]), nu)
+
+    @unittest.skipUnless(np, "numpy is not installed")
     def test_numpy_that_does_not_fit(self) -> None:
         edges, mu, nu = MARKED["A"].problem
         with self.assertRaises(OverflowError):
             wm.solve(edges, np.array(mu) - 1, nu)
         with self.assertRaises(OverflowError):
             wm.distances(4, np.array(edges, dtype="i8") + 2**32)
-        for wrong in (np.array(mu, dtype=float), np.array([mu]), np.array(5)):
+        with self.assertRaisesRegex(wm.Refusal, "refused 15"):  # floats are weights
+            wm.solve(edges, np.array(mu, dtype=float), nu)
+        for wrong in (np.array(mu, dtype=complex), np.array([mu]), np.array(5)):
             with self.assertRaises(TypeError):
                 wm.solve(edges, wrong, nu)
         with self.assertRaises(TypeError):
@@ -661,7 +873,8 @@ class Surroundings(unittest.TestCase):
         lines = out.getvalue().splitlines()
         self.assertEqual(lines[0], "least cost 19.02, in weight times mm")
         self.assertIn("  vertex 7 gives 1 0.200 over 26.33 mm", lines)
-        self.assertEqual(len(lines), 17)
+        self.assertIn("of a stroke, vertex 0 gives 0.25 to 7 and 0.5 to 8", lines)
+        self.assertEqual(len(lines), 18)
         self.assertEqual(lines[-1], "refused 7: the two totals differ")
 
     def test_docstring(self) -> None:
@@ -766,6 +979,71 @@ class ByDefinition(unittest.TestCase):
                 self.assertEqual(masks[:n], [word for _, _, word in figures], name)
                 self.assertEqual(masks[:n], [tree.subtree(x) for x in range(n)], name)
 
+    def weights(self) -> Iterator[Tuple[str, List[float]]]:
+        """Floats next to powers of two, of any bits, and lists with faults."""
+        for bits in range(2**23, 2**32, 2**23):
+            for near in (-1, 0, 1):
+                yield "a power of two", [single(bits + near)]
+        for name, draw in draws("weights", CASES // 10):
+            yield name, random_weights(draw)
+            yield from ((name, [random_single(draw)]) for _ in range(100))
+            yield from ((name, [random_double(draw)]) for _ in range(10))
+
+    def test_to_amounts(self) -> None:
+        met = {0: 0, 15: 0, 16: 0}
+        for name, weights in self.weights():
+            number, amounts = outcome(wm.to_amounts, weights)
+            self.assertEqual((number, amounts), in_grains(weights), (name, weights))
+            met[number] += 1
+        self.assertGreater(min(met.values()), CASES // 2)
+
+    def test_to_weights(self) -> None:
+        """Each weight has the value, is a 32-bit float and gives the amount again."""
+        met = {0: 0, 15: 0}
+        for name, draw in draws("amounts", CASES // 2):
+            amounts = random_amounts(draw)
+            number, weights = outcome(wm.to_weights, amounts)
+            wanted = as_weights(amounts)
+            self.assertEqual((number, list(map(Fraction, weights))), wanted, name)
+            met[number] += 1
+            if number == 0:
+                self.assertEqual(array.array("f", weights).tolist(), weights, name)
+                self.assertEqual(wm.to_amounts(weights), amounts, name)
+        self.assertGreater(min(met.values()), CASES // 10)
+
+    def test_all_amounts(self) -> None:
+        """Every amount but 0 and the largest out and in again. From one power of two to
+        the next, the bits of their weights rise by one step."""
+        for power in range(24):
+            step, least = 2 ** (23 - power), (103 + power) * 2**23
+            for first in range(0, 2**power, 2**16):
+                n = min(2**16, 2**power - first)
+                start, places = 2**power + first, least + step * first
+                amounts = array.array("Q", range(start, start + n))
+                bits = array.array("I", range(places, places + step * n, step))
+                given = (ctypes.c_uint64 * n).from_buffer(amounts)
+                weights, again = (ctypes.c_float * n)(), (ctypes.c_uint64 * n)()
+                self.assertEqual(wm._call("mover_to_weights", given, weights), 0, start)
+                self.assertEqual(bytes(weights), bits.tobytes(), start)
+                self.assertEqual(wm._call("mover_to_amounts", weights, again), 0, start)
+                self.assertEqual(bytes(again), amounts.tobytes(), start)
+
+    def test_paintings(self) -> None:
+        """Paintings as weights are the same paintings."""
+        for name, draw, problem in problems("paintings", CASES // 20):
+            edges, mu, nu = problem
+            before, after = ([x * GRAIN for x in painting] for painting in (mu, nu))
+            best, image = wm.solve(*problem), wm.write(*problem)
+            tree: Any = random_tree(draw, problem)
+            weighed = wm.evaluate(*problem, *tree)
+            judged = wm.is_optimal(*problem, *tree)
+            pairs: List[Any] = [(before, after), (before, nu), (mu, after)]
+            for given in pairs:
+                self.assertEqual(wm.solve(edges, *given), best, name)
+                self.assertEqual(wm.evaluate(edges, *given, *tree), weighed, name)
+                self.assertIs(wm.is_optimal(edges, *given, *tree), judged, name)
+                self.assertEqual(wm.write(edges, *given), image, name)
+
 
 class WrongAnswers(unittest.TestCase):
     """Answers that are spoiled on purpose: the tests above would notice."""
@@ -814,6 +1092,10 @@ class WrongAnswers(unittest.TestCase):
             (MarkedCases, "distances", [(-1, -1)]),
             (MarkedCases, "mark_ancestors", [(-1, 0), (-1, -1)]),
             (ByDefinition, "mark_ancestors", [(-1, 0), (-1, -1)]),
+            (MarkedCases, "to_amounts", [(-1, 0), (-1, -1)]),
+            (ByDefinition, "to_amounts", [(-1, 0), (-1, -1)]),
+            (MarkedCases, "to_weights", [(-1, 0), (-1, -1)]),
+            (ByDefinition, "to_weights", [(-1, 0), (-1, -1)]),
             (MarkedCases, "run", record),
             (MarkedCases, "read", lists),
         ]

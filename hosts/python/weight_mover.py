@@ -14,14 +14,25 @@ A painting is one whole amount, in grains, for each vertex. `mu` is the painting
     >>> best.cost, best.plan
     (6, [(0, 1, 3)])
 
+A painting of floats is one of weights, as paint tools hold them: from 0 to 1, where 1
+is 16,777,216 grains. So its weights sum to at most 1, and each must be a whole number
+of grains. Answers are in grains; `to_weights` gives their weights.
+
+    >>> best = weight_mover.solve(edges, mu=[0.5, 0.0, 0.0], nu=[0.0, 0.25, 0.25])
+    >>> best.plan
+    [(0, 1, 4194304), (0, 2, 4194304)]
+    >>> weight_mover.to_weights(best.table[0])
+    [0.0, 0.25, 0.25]
+
 Costs count grains times hundredths of a millimetre. A tree is a root and the parent of
 each vertex; the root is its own parent, and every other vertex shares an edge of the
 patch with its parent.
 
 Numbers may come in lists, tuples, other sequences and iterables, and in buffers such as
 `array.array` and numpy arrays; edges also as a numpy array of three columns. What the
-library does not accept raises `Refusal`, what is no whole number `TypeError`, and a
-number that is too large or negative `OverflowError`: nothing is rounded or wrapped.
+library does not accept raises `Refusal`, what is no number or no whole one where that
+is wanted `TypeError`, and a whole number that is too large or negative `OverflowError`:
+nothing is rounded or wrapped.
 
 Every call has buffers of its own and lets other threads run while the library works,
 which uses at most 40 KB of a thread's stack.
@@ -41,6 +52,7 @@ from ctypes import (
     Array,
     Structure,
     byref,
+    c_float,
     c_int32,
     c_size_t,
     c_uint8,
@@ -49,7 +61,17 @@ from ctypes import (
 )
 from dataclasses import dataclass, field
 from functools import lru_cache
-from typing import Any, Iterable, List, Optional, SupportsIndex, Tuple
+from numbers import Rational, Real
+from typing import (
+    Any,
+    Iterable,
+    List,
+    Optional,
+    SupportsFloat,
+    SupportsIndex,
+    Tuple,
+    Union,
+)
 
 __all__ = [
     "Answer",
@@ -70,6 +92,8 @@ __all__ = [
     "refusal_text",
     "run",
     "solve",
+    "to_amounts",
+    "to_weights",
     "write",
 ]
 __version__ = "0.2.0"
@@ -82,12 +106,15 @@ MAX_TOTAL = 16_777_216  # grains
 Edge = Tuple[int, int, int]  # a, b, length
 Entry = Tuple[int, int, int]  # from, to, amount
 Numbers = Iterable[SupportsIndex]
+Weights = Iterable[SupportsFloat]
+Painting = Union[Numbers, Weights]
 Edges = Iterable[Numbers]
 BytesLike = Any  # bytes, bytearray, memoryview, a numpy array of bytes
 
 
 # ---- Refusals
 
+_UNKNOWN = "no such number"
 _TEXTS = (
     "accepted",
     "the number of vertices is 0 or above 64",
@@ -104,19 +131,23 @@ _TEXTS = (
     "the image has under 36 or over 65536 bytes",
     "a section of the image is out of order or out of bounds",
     "byte 1 of the image is not 0, or a section has the wrong length",
+    _UNKNOWN,
+    "a weight is below 0, above 1 or no number, or an amount is above 16777216",
+    "a weight is no whole number of grains",
 )
 
 
 def refusal_text(number: int) -> str:
     """The meaning of a number that the library returns; 0 is "accepted"."""
-    return _TEXTS[number] if 0 <= number < len(_TEXTS) else "no such number"
+    return _TEXTS[number] if 0 <= number < len(_TEXTS) else _UNKNOWN
 
 
 class Refusal(ValueError):
     """The library refuses what it was given.
 
-    `number` says which check failed, 1 to 13, and `text` what it means. The checks run
-    in the order 11, 12, 13 and then 1 to 10; each call says by which it refuses.
+    `number` says which check failed, 1 to 13, 15 or 16, and `text` what it means. The
+    checks run in the order 11, 12, 13 and then 1 to 10; each call says by which it
+    refuses. Before them, weights are refused by 15 and then 16, those of mu first.
     """
 
     def __init__(self, number: int) -> None:
@@ -156,12 +187,51 @@ def _items(values: Any, name: str) -> List[Any]:
     return list(items)
 
 
-def _numbers(values: Numbers, limit: int, name: str) -> List[int]:
-    """A list of whole numbers from 0 to a limit."""
+def _row(values: Any, name: str) -> List[Any]:
+    """What a list with an item for each vertex holds."""
     if isinstance(values, (Mapping, Set)):
         raise TypeError(f"{name}: a {type(values).__name__} has no order of vertices")
-    items = enumerate(_items(values, name))
+    return _items(values, name)
+
+
+def _numbers(values: Numbers, limit: int, name: str) -> List[int]:
+    """A list of whole numbers from 0 to a limit."""
+    items = enumerate(_row(values, name))
     return [_number(item, limit, f"{name}[{place}]") for place, item in items]
+
+
+def _weight(value: Any, name: str) -> float:
+    """A weight as a 32-bit float. What is none is not rounded: in its place the call
+    gets a float that it refuses by the same number, 15 outside 0 to 1, else 16."""
+    if not issubclass(type(value), Real):
+        kind = type(value).__name__
+        raise TypeError(f"{name}: {value!r} ({kind}) is not an integer or float")
+    try:
+        nearest = c_float(float(value)).value
+    except OverflowError:  # past all floats
+        return 2.0
+    if nearest == value or value != value:
+        return nearest
+    return 2.0**-25 if 0 <= value <= 1 else 2.0
+
+
+def _painting(values: Painting, limit: int, name: str) -> List[int]:
+    """The amounts of a painting; floats, numpy's too, are weights."""
+    items = _row(values, name)
+    kinds = {type(item) for item in items}
+    floats = {
+        kind
+        for kind in kinds
+        if issubclass(kind, Real) and not issubclass(kind, Rational)
+    }
+    if floats and floats != kinds:
+        other = next(item for item in items if type(item) not in floats)
+        weight = next(item for item in items if type(item) in floats)
+        raise TypeError(
+            f"{name}: {other!r} and {weight!r} in one painting: integers are grains,"
+            " floats are weights"
+        )
+    return to_amounts(items) if floats else _numbers(items, limit, name)
 
 
 def _sorted_edges(edges: Edges, end_limit: int, length_limit: int) -> List[Edge]:
@@ -204,6 +274,7 @@ def _table(item: Any) -> List[Any]:
 
 
 _BYTES, _I32S, _U32S, _U64S = map(_table, (c_uint8, c_int32, c_uint32, c_uint64))
+_FLOATS = _table(c_float)
 _EDGE_LISTS = 3 * _U32S
 _PROBLEM = [c_size_t] + _EDGE_LISTS + 2 * _U64S
 _GIVEN_TREE = [c_size_t] + _U32S
@@ -226,6 +297,8 @@ _SIGNATURES = {
         _BYTES + _EDGE_LISTS + 2 * _U64S + _U32S + _N_M_ROOT_TREE,
     ),
     "mover_run": (c_uint32, 2 * _BYTES),
+    "mover_to_amounts": (c_uint32, _FLOATS + _U64S),
+    "mover_to_weights": (c_uint32, _U64S + _FLOATS),
     "mover_tree_new": (_Tree, [c_size_t] + _GIVEN_TREE),
     "mover_tree_depth": (c_uint32, [_Tree, c_size_t]),
     "mover_tree_parent": (c_uint32, [_Tree, c_size_t]),
@@ -284,10 +357,10 @@ def _edge_lists(edges: Edges) -> List[Any]:
     return [_array(c_uint32, [row[part] for row in rows]) for part in range(3)]
 
 
-def _problem(edges: Edges, mu: Numbers, nu: Numbers) -> List[Any]:
+def _problem(edges: Edges, mu: Painting, nu: Painting) -> List[Any]:
     """n and the tables of a patch and its paintings; n is the length of mu."""
     amounts = [
-        _array(c_uint64, _numbers(painting, _U64, name))
+        _array(c_uint64, _painting(painting, _U64, name))
         for painting, name in ((mu, "mu"), (nu, "nu"))
     ]
     return [len(amounts[0]), *_edge_lists(edges), *amounts]
@@ -447,11 +520,12 @@ def distances_of_records(n: SupportsIndex, edges: Edges) -> List[List[int]]:
     return _square(out, count)
 
 
-def solve(edges: Edges, mu: Numbers, nu: Numbers) -> Answer:
+def solve(edges: Edges, mu: Painting, nu: Painting) -> Answer:
     """A cheapest plan from painting mu to painting nu, with a best tree (root 0) and a
     potential that shows that no plan is cheaper.
 
-    Lengths in hundredths of a millimetre, amounts in grains. Refuses by 1 to 7.
+    Lengths in hundredths of a millimetre; paintings in grains, or weights if they are
+    floats. Refuses by 1 to 7, and weights by 15 and 16 before.
     """
     problem = _problem(edges, mu, nu)
     n = _room(problem[0])
@@ -473,11 +547,12 @@ def solve(edges: Edges, mu: Numbers, nu: Numbers) -> Answer:
 
 
 def evaluate(
-    edges: Edges, mu: Numbers, nu: Numbers, root: SupportsIndex, parents: Numbers
+    edges: Edges, mu: Painting, nu: Painting, root: SupportsIndex, parents: Numbers
 ) -> Evaluation:
     """The plan that carries mu into nu along the edges of a given tree, and its cost.
 
-    Lengths in hundredths of a millimetre, amounts in grains. Refuses by 1 to 10.
+    Lengths in hundredths of a millimetre; paintings in grains, or weights if they are
+    floats. Refuses by 1 to 10, and weights by 15 and 16 before.
     """
     problem = _problem(edges, mu, nu)
     tree = _given_tree(root, parents)
@@ -501,11 +576,12 @@ def evaluate(
 
 
 def is_optimal(
-    edges: Edges, mu: Numbers, nu: Numbers, root: SupportsIndex, parents: Numbers
+    edges: Edges, mu: Painting, nu: Painting, root: SupportsIndex, parents: Numbers
 ) -> bool:
     """Whether no spanning tree of the patch costs less than the given one.
 
-    Lengths in hundredths of a millimetre, amounts in grains. Refuses by 1 to 10.
+    Lengths in hundredths of a millimetre; paintings in grains, or weights if they are
+    floats. Refuses by 1 to 10, and weights by 15 and 16 before.
     """
     optimal = c_uint32()
     problem, tree = _problem(edges, mu, nu), _given_tree(root, parents)
@@ -540,6 +616,42 @@ def mark_ancestors(
     words = _array(c_uint64, _numbers(masks, _U64, "masks"))
     _check("mover_mark_ancestors", count, *tree, vertex, words)
     return list(words)
+
+
+def to_amounts(weights: Weights) -> List[int]:
+    """The amounts, in grains, of weights as paint tools hold them: each weight, from 0
+    to 1, times 16,777,216, exactly. Negative zero is 0.
+
+    >>> to_amounts([1.0, 0.25, 3 / 16_777_216, 0.0])
+    [16777216, 4194304, 3, 0]
+
+    There may be any number of weights; integers 0 and 1 are weights too. Refuses by 15
+    if some weight is below 0, above 1 or no number, then by 16 if some weight is no
+    whole number of grains, as 0.1 is none. The exact value counts, not the nearest
+    32-bit float.
+    """
+    items = enumerate(_row(weights, "weights"))
+    floats = [_weight(item, f"weights[{place}]") for place, item in items]
+    amounts = (c_uint64 * len(floats))()
+    _check("mover_to_amounts", _array(c_float, floats), amounts)
+    return list(amounts)
+
+
+def to_weights(amounts: Numbers) -> List[float]:
+    """The weights of amounts in grains, from 0 to 16,777,216: each amount divided by
+    16,777,216, exactly. All of them are 32-bit floats, and `to_amounts` gives the
+    amounts again.
+
+    >>> to_weights([16_777_216, 4_194_304, 0])
+    [1.0, 0.25, 0.0]
+
+    There may be any number of amounts. Refuses by 15 if some amount is above
+    16,777,216.
+    """
+    given = _array(c_uint64, _numbers(amounts, _U64, "amounts"))
+    weights = (c_float * len(given))()
+    _check("mover_to_weights", given, weights)
+    return list(weights)
 
 
 # ---- Calls on images
@@ -603,20 +715,21 @@ def read(image: BytesLike) -> Patch:
 
 def write(
     edges: Edges,
-    mu: Numbers,
-    nu: Numbers,
+    mu: Painting,
+    nu: Painting,
     root: SupportsIndex = 0,
     parents: Optional[Numbers] = None,
 ) -> bytes:
     """An image for `run` and `read`: the patch, its paintings and, if parents are
-    given, a tree.
+    given, a tree. Paintings are in grains, or weights if they are floats.
 
     Raises `OverflowError` for what its bytes cannot hold: more than 255 vertices or
     65,535 edges, an end, root or parent above 255, a length above 65,535, an amount
-    above 4,294,967,295. Nothing else is examined: that is for `run` and `read`.
+    above 4,294,967,295. Refuses weights by 15 and 16. Nothing else is examined: that is
+    for `run` and `read`.
     """
     rows = _sorted_edges(edges, _U8, _U16)
-    before, after = _numbers(mu, _U32, "mu"), _numbers(nu, _U32, "nu")
+    before, after = _painting(mu, _U32, "mu"), _painting(nu, _U32, "nu")
     tree = b""
     if parents is not None:
         tree = bytes([_number(root, _U8, "root"), *_numbers(parents, _U8, "parents")])

@@ -7,6 +7,7 @@ ghost use Rattle.tree_evaluation.specs.Evaluate.{Evaluated};
 ghost use Rattle.optimal_transport.specs.Solve.{Solved};
 ghost use Rattle.optimality_test.specs.OptimalityTest.{OptimalityTested};
 ghost use Rattle.tree_walks.specs.MarkAncestors.{markRefusal, markTable};
+ghost use Rattle.skin_weights.specs.Lists.{amountsRefusal, weightsRefusal, amountsTable, weightsTable};
 ghost use Rattle.image_reader.specs.Read.{Read, lists};
 ghost use Rattle.weight_mover.specs.Run.{Ran};
 
@@ -127,6 +128,24 @@ pub extern "C" fn mover_mark_ancestors(
         × (now (masks .exit) ≡ markTable n root (now (parents .entry)) y (now (masks .entry))) ⌝ }
 {
     tree_walks::mark_ancestors::mark_ancestors(n, root, parents, y, masks)
+}
+
+// Fills the first places of `amounts` with the amounts of the weights, in grains.
+#[no_mangle]
+pub extern "C" fn mover_to_amounts(weights: &[f32], amounts: &mut [u64]) -> u32
+    ensures { λ k. ⌜ (k ≡ amountsRefusal (now (weights .entry)) (now (amounts .entry)))
+        × (now (amounts .exit) ≡ amountsTable (now (weights .entry)) (now (amounts .entry))) ⌝ }
+{
+    skin_weights::to_amounts(weights, amounts)
+}
+
+// Fills the first places of `weights` with the floats of the amounts.
+#[no_mangle]
+pub extern "C" fn mover_to_weights(amounts: &[u64], weights: &mut [f32]) -> u32
+    ensures { λ k. ⌜ (k ≡ weightsRefusal (now (amounts .entry)) (now (weights .entry)))
+        × (now (weights .exit) ≡ weightsTable (now (amounts .entry)) (now (weights .entry))) ⌝ }
+{
+    skin_weights::to_weights(amounts, weights)
 }
 
 // Reads an image into lent lists: all of them, or none after a refusal.

@@ -2,3 +2,4 @@ pub mod Figures
 pub mod Cases
 pub mod Best
 pub mod Marks
+pub mod Weights

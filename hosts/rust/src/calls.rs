@@ -3,8 +3,8 @@
 //! Each returns the number of its refusal, or 0; [`Refusal::check`](crate::Refusal::check) makes a `Result`
 //! of it. After a refusal every table is as it was and every single result is 0. An answer table may be
 //! longer than is asked; what is past the answer stays as it was. All contents are allowed: what is no
-//! graph, no tree or no image is refused. The calls keep nothing and may be used from several threads at
-//! once.
+//! graph, no tree, no image or no weight is refused. The calls keep nothing and may be used from several
+//! threads at once.
 //!
 //! A table of n × n numbers has row i from place i × n.
 
@@ -108,6 +108,18 @@ mod ffi {
             y: usize,
             masks: *mut u64,
             masks_len: usize,
+        ) -> u32;
+        pub fn mover_to_amounts(
+            weights: *const f32,
+            weights_len: usize,
+            amounts: *mut u64,
+            amounts_len: usize,
+        ) -> u32;
+        pub fn mover_to_weights(
+            amounts: *const u64,
+            amounts_len: usize,
+            weights: *mut f32,
+            weights_len: usize,
         ) -> u32;
         pub fn mover_read(
             image: *const u8,
@@ -355,6 +367,60 @@ pub fn mover_mark_ancestors(n: usize, root: usize, parents: &[u32], y: usize, ma
             y,
             masks.as_mut_ptr(),
             masks.len(),
+        )
+    }
+}
+
+/// Turns weights, 32-bit floats from 0 to 1, into amounts: fills as many places of `amounts` as there are
+/// weights, each with the weight times 16,777,216, exactly. Negative zero is 0.
+///
+/// The lists may have any length. Refuses by 2, if `amounts` is shorter than `weights`, and then by 15 and 16;
+/// 15 looks at all weights before 16 looks at any.
+///
+/// ```
+/// use weight_mover::calls::mover_to_amounts;
+///
+/// let mut amounts = [9; 4];
+/// assert_eq!(mover_to_amounts(&[1.0, 0.25, -0.0], &mut amounts), 0);
+/// assert_eq!(amounts, [16_777_216, 4_194_304, 0, 9]);
+/// assert_eq!(mover_to_amounts(&[0.5; 5], &mut amounts), 2);
+/// assert_eq!(mover_to_amounts(&[0.5, 0.1], &mut amounts), 16);
+/// assert_eq!(mover_to_amounts(&[0.5, 0.1, f32::NAN], &mut amounts), 15);
+/// assert_eq!(amounts, [16_777_216, 4_194_304, 0, 9]);
+/// ```
+pub fn mover_to_amounts(weights: &[f32], amounts: &mut [u64]) -> u32 {
+    unsafe {
+        ffi::mover_to_amounts(
+            weights.as_ptr(),
+            weights.len(),
+            amounts.as_mut_ptr(),
+            amounts.len(),
+        )
+    }
+}
+
+/// Turns amounts from 0 to 16,777,216 into weights: fills as many places of `weights` as there are amounts,
+/// each with the amount divided by 16,777,216, exactly. [`mover_to_amounts`] gives the amounts again.
+///
+/// The lists may have any length. Refuses by 2, if `weights` is shorter than `amounts`, and then by 15.
+///
+/// ```
+/// use weight_mover::calls::mover_to_weights;
+///
+/// let mut weights = [9.0; 4];
+/// assert_eq!(mover_to_weights(&[16_777_216, 1, 0], &mut weights), 0);
+/// assert_eq!(weights, [1.0, 1.0 / 16_777_216.0, 0.0, 9.0]);
+/// assert_eq!(mover_to_weights(&[0; 5], &mut weights), 2);
+/// assert_eq!(mover_to_weights(&[0, 16_777_217], &mut weights), 15);
+/// assert_eq!(weights, [1.0, 1.0 / 16_777_216.0, 0.0, 9.0]);
+/// ```
+pub fn mover_to_weights(amounts: &[u64], weights: &mut [f32]) -> u32 {
+    unsafe {
+        ffi::mover_to_weights(
+            amounts.as_ptr(),
+            amounts.len(),
+            weights.as_mut_ptr(),
+            weights.len(),
         )
     }
 }

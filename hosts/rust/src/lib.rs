@@ -34,14 +34,17 @@
 //! | `mover_is_optimal` | [`Graph::is_optimal`] | |
 //! | `mover_solve` | [`Graph::solve`] | [`Graph::solve_into`] |
 //! | `mover_mark_ancestors` | | [`mark_ancestors`] |
+//! | `mover_to_amounts` | [`to_amounts`] | [`to_amounts_into`] |
+//! | `mover_to_weights` | [`to_weights`] | [`to_weights_into`] |
 //! | `mover_read` | [`read`] | [`read_into`] |
 //! | `mover_run` | [`run`] | [`run_into`] |
 //! | `mover_tree_new` | [`Tree::new`] | |
 //! | `mover_tree_depth`, `_parent`, `_subtree` | [`Tree::depth`], [`parent`](Tree::parent), [`subtree`](Tree::subtree) | |
 //!
 //! [`calls`] has them under their own names, on slices. A [`Patch`] is a graph with its measures and perhaps
-//! a tree: what an image holds, and a [`text`]. The library keeps nothing between calls and may be used from
-//! several threads at once.
+//! a tree: what an image holds, and a [`text`]. [`to_amounts`] makes a measure of weights as paint tools hold
+//! them, 32-bit floats from 0 to 1. The library keeps nothing between calls and may be used from several
+//! threads at once.
 
 #![warn(missing_docs)]
 
@@ -53,6 +56,7 @@ mod patch;
 mod refusal;
 pub mod text;
 mod tree;
+mod weights;
 
 pub use answer::{run, run_into, Answer, Evaluation};
 pub use calls::mover_run;
@@ -60,6 +64,7 @@ pub use graph::{distances_of_records, distances_of_records_into, Distances, Edge
 pub use patch::{read, read_into, Patch};
 pub use refusal::Refusal;
 pub use tree::{mark_ancestors, Tree};
+pub use weights::{to_amounts, to_amounts_into, to_weights, to_weights_into};
 
 /// The greatest number of vertices.
 pub const MAX_VERTICES: usize = 64;

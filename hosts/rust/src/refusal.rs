@@ -2,7 +2,8 @@ use std::fmt;
 
 /// Why the library refused a call: the numbers of its specification.
 ///
-/// The checks run in the order 11, 12, 13 and then 1 to 10; the first that fails gives the number.
+/// The checks run in the order 11, 12, 13 and then 1 to 10; the first that fails gives the number. Where weights
+/// become amounts, and back, they are 2, 15 and 16, in this order.
 #[derive(Clone, Copy, Debug, PartialEq, Eq, Hash)]
 #[non_exhaustive]
 pub enum Refusal {
@@ -33,6 +34,10 @@ pub enum Refusal {
     SectionPlace,
     /// 13: byte 1 of the image is not 0, or a section's length does not fit the counts.
     SectionLength,
+    /// 15: a weight is below 0, above 1 or no number, or an amount that is to be a weight is above 16,777,216.
+    WeightRange,
+    /// 16: a weight is no whole number of grains: 16,777,216 times it is not whole.
+    WeightGrains,
     /// A number that this crate does not know.
     Other(u32),
 }
@@ -55,6 +60,8 @@ impl Refusal {
             11 => Refusal::ImageSize,
             12 => Refusal::SectionPlace,
             13 => Refusal::SectionLength,
+            15 => Refusal::WeightRange,
+            16 => Refusal::WeightGrains,
             other => Refusal::Other(other),
         })
     }
@@ -87,6 +94,8 @@ impl Refusal {
             Refusal::ImageSize => 11,
             Refusal::SectionPlace => 12,
             Refusal::SectionLength => 13,
+            Refusal::WeightRange => 15,
+            Refusal::WeightGrains => 16,
             Refusal::Other(number) => number,
         }
     }
@@ -108,6 +117,10 @@ impl fmt::Display for Refusal {
             Refusal::ImageSize => "the image has under 36 or over 65,536 bytes",
             Refusal::SectionPlace => "a section of the image is out of place",
             Refusal::SectionLength => "a section of the image has a length that does not fit",
+            Refusal::WeightRange => {
+                "a weight is below 0, above 1 or no number, or an amount is above 16,777,216"
+            }
+            Refusal::WeightGrains => "a weight is no whole number of grains",
             Refusal::Other(_) => "for a reason unknown to this crate",
         };
         write!(f, "refused {}: {meaning}", self.number())
@@ -128,7 +141,8 @@ mod tests {
             let refusal = Refusal::from_number(number).expect("a refusal");
             assert_eq!(refusal.number(), number);
             assert_eq!(Refusal::check(number), Err(refusal));
-            assert_eq!(matches!(refusal, Refusal::Other(_)), number > 13);
+            let known = (1..=13).contains(&number) || number == 15 || number == 16;
+            assert_eq!(matches!(refusal, Refusal::Other(_)), !known);
             assert!(refusal.to_string().starts_with(&format!("refused {number}: ")));
         }
     }

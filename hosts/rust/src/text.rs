@@ -16,12 +16,23 @@
 //! at       0  0 0.5                   # optional: where to draw vertex 0, x to the right and y down
 //! ```
 //!
-//! [`parse`] reads it, and a [`Drawing`] is written as such a text by its `Display`.
+//! In place of `mu`, of `nu` or of both there may be weights from 0 to 1, as paint tools hold them:
 //!
-//! Reading tests the text alone: what is written wrong is told with its line. Whether the patch is sound,
-//! connected and of equal totals say, is the library's to tell.
+//! ```text
+//! weights before 0.5 0.25 0 0.25
+//! weights after  0 0 0.75 0.25
+//! ```
+//!
+//! They may go on over several lines too. A decimal stands for the 32-bit float nearest to it, and
+//! [`to_amounts`] makes an amount of that: 1 is 16,777,216 grains, the greatest total of a measure. What is
+//! no whole number of grains, 0.1 say, is an error.
+//!
+//! [`parse`] reads it, and a [`Drawing`] is written as such a text by its `Display`, with `mu` and `nu`.
+//!
+//! Reading tests the text alone: what is written wrong is told with its line, and so is a weight that the
+//! library refuses. Whether the patch is sound, connected and of equal totals say, is the library's to tell.
 
-use crate::{Edge, Patch};
+use crate::{to_amounts, Edge, Patch};
 use std::fmt;
 
 /// What a text says: a patch, and how to draw it.
@@ -36,7 +47,7 @@ pub struct Drawing {
 }
 
 impl fmt::Display for Drawing {
-    /// Writes the text: what [`parse`] gave is read back from it as it was.
+    /// Writes the text: what [`parse`] gave is read back from it as it was. The measures are written in grains.
     ///
     /// A title of more than one line, or with a `#`, would not be; nor would numbers that no text can have,
     /// or a tree or measures of the wrong length.
@@ -93,14 +104,27 @@ struct List<T> {
     line: usize,
 }
 
+/// What the lines of a measure begin with, before and after, if it is given in grains.
+const AMOUNTS: [&str; 2] = ["mu", "nu"];
+
+/// The same if it is given by weights.
+const WEIGHTS: [&str; 2] = ["weights before", "weights after"];
+
+/// A measure, and what all its lines begin with.
+#[derive(Default)]
+struct Measure {
+    amounts: List<u64>,
+    given: Option<&'static str>,
+}
+
 /// Everything read so far.
 #[derive(Default)]
 struct Reader {
     title: String,
     vertices: Option<u32>,
     edges: Vec<(u32, u32, u32, usize)>,
-    mu: List<u64>,
-    nu: List<u64>,
+    /// Before and after.
+    measures: [Measure; 2],
     root: Option<(u32, usize)>,
     parents: List<u32>,
     places: List<Option<(f64, f64)>>,
@@ -131,65 +155,108 @@ impl Reader {
         let words: Vec<&str> = rest.split_whitespace().collect();
         match word {
             "title" => self.title = rest.into(),
-            "vertices" => {
-                let [n] = exactly(&words, "vertices wants one number")?;
-                if self.vertices.is_some() {
-                    return Err("the number of vertices is given a second time".into());
-                }
-                self.vertices = Some(number(n, 255)?);
-            }
-            "edge" => {
-                let [a, b, length] = exactly(&words, "edge wants two ends and a length")?;
-                let (a, b) = (self.vertex(a)?, self.vertex(b)?);
-                let length = number(length, 65_535)?;
-                if a == b {
-                    return Err(format!("the edge joins vertex {a} to itself"));
-                }
-                let same = |&&(x, y, ..): &&(u32, u32, u32, usize)| (x, y) == (a, b) || (x, y) == (b, a);
-                if let Some((.., first)) = self.edges.iter().find(same) {
-                    return Err(format!(
-                        "there is an edge between {a} and {b} in line {first} already"
-                    ));
-                }
-                self.edges.push((a, b, length, line));
-            }
-            "mu" | "nu" => {
-                let n = self.count()?;
-                let list = if word == "mu" { &mut self.mu } else { &mut self.nu };
-                for amount in words {
-                    list.items.push(number(amount, u32::MAX)?.into());
-                }
-                list.at_most(n, line, word)?;
-            }
-            "root" => {
-                let [root] = exactly(&words, "root wants one vertex")?;
-                if self.root.is_some() {
-                    return Err("the root is given a second time".into());
-                }
-                self.root = Some((self.vertex(root)?, line));
-            }
-            "parents" => {
-                let n = self.count()?;
-                for parent in words {
-                    let parent = self.vertex(parent)?;
-                    self.parents.items.push(parent);
-                }
-                self.parents.at_most(n, line, word)?;
-            }
-            "at" => {
-                let n = self.count()?;
-                let [x, right, down] = exactly(&words, "at wants a vertex and two coordinates")?;
-                let x = self.vertex(x)?;
-                self.places.items.resize(n as usize, None);
-                self.places.items[x as usize] = Some((coordinate(right)?, coordinate(down)?));
-                self.places.line = line;
-            }
+            "vertices" => self.set_vertices(&words)?,
+            "edge" => self.add_edge(line, &words)?,
+            "mu" => self.add_amounts(line, 0, &words)?,
+            "nu" => self.add_amounts(line, 1, &words)?,
+            "weights" => self.add_weights(line, &words)?,
+            "root" => self.set_root(line, &words)?,
+            "parents" => self.add_parents(line, &words)?,
+            "at" => self.set_place(line, &words)?,
             _ => {
                 return Err(format!(
-                    "\"{word}\" is none of title, vertices, edge, mu, nu, root, parents, at"
+                    "\"{word}\" is none of title, vertices, edge, mu, nu, weights, root, parents, at"
                 ))
             }
         }
+        Ok(())
+    }
+
+    fn set_vertices(&mut self, words: &[&str]) -> Result<(), String> {
+        let [n] = exactly(words, "vertices wants one number")?;
+        if self.vertices.is_some() {
+            return Err("the number of vertices is given a second time".into());
+        }
+        self.vertices = Some(number(n, 255)?);
+        Ok(())
+    }
+
+    fn add_edge(&mut self, line: usize, words: &[&str]) -> Result<(), String> {
+        let [a, b, length] = exactly(words, "edge wants two ends and a length")?;
+        let (a, b) = (self.vertex(a)?, self.vertex(b)?);
+        let length = number(length, 65_535)?;
+        if a == b {
+            return Err(format!("the edge joins vertex {a} to itself"));
+        }
+        let same = |&&(x, y, ..): &&(u32, u32, u32, usize)| (x, y) == (a, b) || (x, y) == (b, a);
+        if let Some((.., first)) = self.edges.iter().find(same) {
+            return Err(format!(
+                "there is an edge between {a} and {b} in line {first} already"
+            ));
+        }
+        self.edges.push((a, b, length, line));
+        Ok(())
+    }
+
+    fn add_amounts(&mut self, line: usize, which: usize, words: &[&str]) -> Result<(), String> {
+        let n = self.count()?;
+        let list = self.measures[which].given_by(AMOUNTS[which])?;
+        list.admit(words.len(), n, line, AMOUNTS[which])?;
+        for amount in words {
+            list.items.push(number(amount, u32::MAX)?.into());
+        }
+        Ok(())
+    }
+
+    /// The library makes amounts of the weights of a line. Of those that it refuses the first is told.
+    fn add_weights(&mut self, line: usize, words: &[&str]) -> Result<(), String> {
+        let n = self.count()?;
+        let (which, words) = match words.split_first() {
+            Some((&"before", rest)) => (0, rest),
+            Some((&"after", rest)) => (1, rest),
+            Some((other, _)) => return Err(format!("weights are before or after, not \"{other}\"")),
+            None => return Err("weights wants before or after, and then the weights".into()),
+        };
+        let list = self.measures[which].given_by(WEIGHTS[which])?;
+        list.admit(words.len(), n, line, WEIGHTS[which])?;
+        let weights = words.iter().map(|word| float(word));
+        let weights = weights.collect::<Result<Vec<f32>, String>>()?;
+        let amounts = to_amounts(&weights).map_err(|refusal| {
+            let refused = |&weight: &f32| to_amounts(&[weight]) == Err(refusal);
+            let at = weights.iter().position(refused).unwrap_or(0);
+            let vertex = list.items.len() + at;
+            format!("the weight {} of vertex {vertex} is {refusal}", words[at])
+        })?;
+        list.items.extend(amounts);
+        Ok(())
+    }
+
+    fn set_root(&mut self, line: usize, words: &[&str]) -> Result<(), String> {
+        let [root] = exactly(words, "root wants one vertex")?;
+        if self.root.is_some() {
+            return Err("the root is given a second time".into());
+        }
+        self.root = Some((self.vertex(root)?, line));
+        Ok(())
+    }
+
+    fn add_parents(&mut self, line: usize, words: &[&str]) -> Result<(), String> {
+        let n = self.count()?;
+        self.parents.admit(words.len(), n, line, "parents")?;
+        for parent in words {
+            let parent = self.vertex(parent)?;
+            self.parents.items.push(parent);
+        }
+        Ok(())
+    }
+
+    fn set_place(&mut self, line: usize, words: &[&str]) -> Result<(), String> {
+        let n = self.count()?;
+        let [x, right, down] = exactly(words, "at wants a vertex and two coordinates")?;
+        let x = self.vertex(x)?;
+        self.places.items.resize(n as usize, None);
+        self.places.items[x as usize] = Some((coordinate(right)?, coordinate(down)?));
+        self.places.line = line;
         Ok(())
     }
 
@@ -212,48 +279,81 @@ impl Reader {
     }
 
     fn finish(self, last: usize) -> Result<Drawing, Error> {
-        let error = |line: usize, message: String| Err(Error { line, message });
         let Some(vertices) = self.vertices else {
             return error(last, "the number of vertices is missing".into());
         };
         let n = vertices as usize;
-        for (word, list) in [("mu", &self.mu), ("nu", &self.nu)] {
-            if list.items.len() < n {
-                let line = if list.line == 0 { last } else { list.line };
-                let got = list.items.len();
-                return error(line, format!("{word} has {got} amounts for {n} vertices"));
-            }
+        for (measure, usual) in self.measures.iter().zip(AMOUNTS) {
+            measure.check_length(n, last, usual)?;
+        }
+        let tree = self.tree(n)?;
+        if let Some(missing) = self.places.items.iter().position(Option::is_none) {
+            let message = format!("some vertices have a place, but vertex {missing} has none");
+            return error(self.places.line, message);
         }
         let edges = self.edges.iter().map(|&(a, b, length, _)| (a, b, length));
-        let mut patch = Patch::new(n).edges(edges).mu(&self.mu.items).nu(&self.nu.items);
+        let [mu, nu] = &self.measures;
+        let patch = Patch::new(n).edges(edges);
+        let patch = patch.mu(&mu.amounts.items).nu(&nu.amounts.items);
+        Ok(Drawing {
+            patch: match tree {
+                Some(root) => patch.tree(root, &self.parents.items),
+                None => patch,
+            },
+            title: self.title,
+            places: self.places.items.into_iter().flatten().collect(),
+        })
+    }
+
+    /// The root, if there is a tree; all its parents are there.
+    fn tree(&self, n: usize) -> Result<Option<usize>, Error> {
         match (self.root, self.parents.line) {
-            (None, 0) => {}
-            (None, line) => return error(line, "there are parents, but no root".into()),
+            (None, 0) => Ok(None),
+            (None, line) => error(line, "there are parents, but no root".into()),
             (Some((root, line)), _) => {
                 let got = self.parents.items.len();
                 if got < n {
                     let line = line.max(self.parents.line);
                     return error(line, format!("the tree has {got} parents for {n} vertices"));
                 }
-                patch = patch.tree(root as usize, &self.parents.items);
+                Ok(Some(root as usize))
             }
         }
-        if let Some(missing) = self.places.items.iter().position(Option::is_none) {
-            let message = format!("some vertices have a place, but vertex {missing} has none");
-            return error(self.places.line, message);
+    }
+}
+
+fn error<T>(line: usize, message: String) -> Result<T, Error> {
+    Err(Error { line, message })
+}
+
+impl Measure {
+    /// Its list, for a line that begins so.
+    fn given_by(&mut self, words: &'static str) -> Result<&mut List<u64>, String> {
+        let first = *self.given.get_or_insert(words);
+        if first != words {
+            let line = self.amounts.line;
+            return Err(format!("this measure is given by {first} in line {line} already"));
         }
-        Ok(Drawing {
-            patch,
-            title: self.title,
-            places: self.places.items.into_iter().flatten().collect(),
-        })
+        Ok(&mut self.amounts)
+    }
+
+    /// Tests that there is an amount for each vertex.
+    fn check_length(&self, n: usize, last: usize, usual: &str) -> Result<(), Error> {
+        let List { items, line } = &self.amounts;
+        if items.len() < n {
+            let line = if *line == 0 { last } else { *line };
+            let (word, got) = (self.given.unwrap_or(usual), items.len());
+            return error(line, format!("{word} has {got} numbers for {n} vertices"));
+        }
+        Ok(())
     }
 }
 
 impl<T> List<T> {
-    fn at_most(&mut self, n: u32, line: usize, word: &str) -> Result<(), String> {
+    /// Makes ready for so many more numbers, which a line adds.
+    fn admit(&mut self, more: usize, n: u32, line: usize, word: &str) -> Result<(), String> {
         self.line = line;
-        if self.items.len() > n as usize {
+        if self.items.len() + more > n as usize {
             return Err(format!("{word} has more than {n} numbers, one for each vertex"));
         }
         Ok(())
@@ -274,6 +374,11 @@ fn number(word: &str, most: u32) -> Result<u32, String> {
         Ok(value) if value <= most => Ok(value),
         _ => Err(format!("{word} is too large: at most {most} can be written here")),
     }
+}
+
+/// The 32-bit float nearest to a decimal. It may be no weight: the library refuses that.
+fn float(word: &str) -> Result<f32, String> {
+    word.parse().map_err(|_| format!("\"{word}\" is not a number"))
 }
 
 fn coordinate(word: &str) -> Result<f64, String> {
@@ -336,7 +441,7 @@ mod tests {
             ("vertices 2\nmu 1 2 3", "line 2: mu has more than 2 numbers"),
             (
                 "vertices 2\nmu 1 2\nnu 3\n# end",
-                "line 3: nu has 1 amounts for 2 vertices",
+                "line 3: nu has 1 numbers for 2 vertices",
             ),
             ("vertices 1\nmu 4294967296", "line 2: 4294967296 is too large"),
             (
@@ -354,6 +459,90 @@ mod tests {
             ),
             ("vertices 1\nat 0 0 far", "line 2: \"far\" is not a coordinate"),
             ("vertices 1\nat 0 0 inf", "line 2: \"inf\" is not a coordinate"),
+        ];
+        for (text, expected) in cases {
+            let error = parse(text).unwrap_err().to_string();
+            assert!(error.starts_with(expected), "{text:?} gives {error:?}");
+        }
+    }
+
+    #[test]
+    fn weights() {
+        let text = "vertices 4\nweights after 5.9604645e-8 0 0.99999994 -0\nweights before .5 +0.25\n\
+                    weights before 1. # one\nweights before 1.25e-1\n";
+        let drawing = parse(text).unwrap();
+        let (before, after) = (
+            [8_388_608, 4_194_304, 16_777_216, 2_097_152],
+            [1, 0, 16_777_215, 0],
+        );
+        assert_eq!(drawing.patch, Patch::new(4).mu(&before).nu(&after));
+        let written = "vertices 4\nmu 8388608 4194304 16777216 2097152\nnu 1 0 16777215 0\n";
+        assert_eq!(drawing.to_string(), written);
+        // One measure may be given in grains, the other by weights.
+        let mixed = parse("vertices 1\nmu 3\nweights after 1").unwrap();
+        assert_eq!(mixed.patch, Patch::new(1).mu(&[3]).nu(&[16_777_216]));
+        let none = parse("vertices 0\nweights before\nweights after").unwrap();
+        assert_eq!(none.patch, Patch::new(0));
+    }
+
+    #[test]
+    fn errors_of_weights() {
+        let cases = [
+            ("weights", "weights wants before or after"),
+            ("weights 0.5 0.5", "weights are before or after, not \"0.5\""),
+            (
+                "weights before 0.5 0 0.1 0",
+                "weights before has more than 3 numbers",
+            ),
+            (
+                "weights before 0.5 0",
+                "weights before has 2 numbers for 3 vertices",
+            ),
+            ("weights before 0 0.5 abc", "\"abc\" is not a number"),
+            ("weights before 0 0x1", "\"0x1\" is not a number"),
+            ("weights before 0 0,5", "\"0,5\" is not a number"),
+            (
+                "weights after 0.5 0.10 0",
+                "the weight 0.10 of vertex 1 is refused 16: a weight is no whole number of grains",
+            ),
+            (
+                "weights after 0.1 0 1.5",
+                "the weight 1.5 of vertex 2 is refused 15: a weight is below 0, above 1 or no number",
+            ),
+            (
+                "weights after 0 1e-45",
+                "the weight 1e-45 of vertex 1 is refused 16",
+            ),
+            (
+                "weights after -1e-45",
+                "the weight -1e-45 of vertex 0 is refused 15",
+            ),
+            ("weights after 0 NaN", "the weight NaN of vertex 1 is refused 15"),
+            ("weights after -inf", "the weight -inf of vertex 0 is refused 15"),
+            ("weights after 1e99", "the weight 1e99 of vertex 0 is refused 15"),
+        ];
+        for (line, expected) in cases {
+            let error = parse(&format!("vertices 3\n\n{line}")).unwrap_err();
+            assert_eq!(error.line, 3);
+            assert!(error.message.starts_with(expected), "{line:?} gives {error:?}");
+        }
+        let cases = [
+            (
+                "weights before 1",
+                "line 1: the number of vertices must come first",
+            ),
+            (
+                "vertices 1\nmu 1\n\nweights before 1",
+                "line 4: this measure is given by mu in line 2 already",
+            ),
+            (
+                "vertices 2\nweights after 1\nweights after 0\nnu 1 0",
+                "line 4: this measure is given by weights after in line 3 already",
+            ),
+            (
+                "vertices 3\nweights before 0.5\nweights before 0 2 # here\nweights before 0",
+                "line 3: the weight 2 of vertex 2 is refused 15",
+            ),
         ];
         for (text, expected) in cases {
             let error = parse(text).unwrap_err().to_string();

@@ -98,6 +98,10 @@ fn complaints() {
             "line 2: \"one\" is not a whole number",
         ),
         ("vertices 1\nmu 3\nnu 4\n", "refused 7: the two totals differ"),
+        (
+            "vertices 1\nmu 3\nweights after 0.1\n",
+            "line 3: the weight 0.1 of vertex 0 is refused 16: a weight is no whole number of grains",
+        ),
     ];
     for (content, message) in cases {
         let path = scratch("complaint.patch");

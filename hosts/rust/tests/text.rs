@@ -3,7 +3,8 @@
 //! `MOVER_CASES` and `MOVER_SEED` are as in the differential tests.
 
 use reference::random::{self, Random};
-use reference::runs::{images, seed};
+use reference::runs::{cases, images, seed};
+use reference::weights::weight;
 use reference::Problem;
 use std::fs;
 use std::path::Path;
@@ -61,12 +62,35 @@ fn try_text(format: Format, text: &str) -> Result<bool, String> {
     }
 }
 
+/// The weight of an amount, written so that it is read as the same float.
+fn decimal(random: &mut Random, amount: u64) -> String {
+    let weight = f32::from_bits(weight(amount).expect("at most 16,777,216"));
+    match random.below(4) {
+        0 => format!("{weight}"),
+        1 => format!("{weight:e}"),
+        // Nine digits tell every float from its neighbours, and twenty-four places are all that there are.
+        2 => format!("{weight:.8e}"),
+        _ => format!("{weight:.24}"),
+    }
+}
+
+/// Two lines of a measure, in grains or by weights.
+fn measure(random: &mut Random, words: [&str; 2], amounts: &[u64]) -> String {
+    let weighed = random.chance(2);
+    let word = words[usize::from(weighed)];
+    let numbers: Vec<String> = amounts
+        .iter()
+        .map(|&amount| match weighed {
+            true => decimal(random, amount),
+            false => amount.to_string(),
+        })
+        .collect();
+    let (first, second) = numbers.split_at(random.index(numbers.len()));
+    format!("{word} {}\n{word} {}", first.join(" "), second.join(" "))
+}
+
 /// The text of a problem, its lines in some order, with a title and places or without.
 fn text_of(random: &mut Random, problem: &Problem) -> String {
-    let list = |numbers: &[u64]| {
-        let words: Vec<String> = numbers.iter().map(u64::to_string).collect();
-        words.join(" ")
-    };
     let mut lines: Vec<String> = problem
         .edges
         .iter()
@@ -75,13 +99,11 @@ fn text_of(random: &mut Random, problem: &Problem) -> String {
             false => format!("edge\t{}  {} 0{} # an edge", e.b, e.a, e.length),
         })
         .collect();
-    let at = random.index(problem.n);
-    let (first, second) = problem.mu.split_at(at);
-    lines.push(format!("mu {}\nmu {}", list(first), list(second)));
-    lines.push(format!("nu {}", list(&problem.nu)));
+    lines.push(measure(random, ["mu", "weights before"], &problem.mu));
+    lines.push(measure(random, ["nu", "weights after"], &problem.nu));
     if let Some(tree) = &problem.tree {
-        let parents: Vec<u64> = tree.parents.iter().map(|&p| p as u64).collect();
-        lines.push(format!("root {}\nparents {}", tree.root, list(&parents)));
+        let parents: Vec<String> = tree.parents.iter().map(usize::to_string).collect();
+        lines.push(format!("root {}\nparents {}", tree.root, parents.join(" ")));
     }
     if random.chance(2) {
         lines.push("title A \u{2192} B & \u{e9}".into());
@@ -96,7 +118,7 @@ fn text_of(random: &mut Random, problem: &Problem) -> String {
 }
 
 /// Words that a damaged text may get.
-const WORDS: [&str; 30] = [
+const WORDS: [&str; 38] = [
     "title",
     "vertices",
     "edge",
@@ -105,6 +127,9 @@ const WORDS: [&str; 30] = [
     "root",
     "parents",
     "at",
+    "weights",
+    "before",
+    "after",
     "0",
     "1",
     "2",
@@ -120,6 +145,11 @@ const WORDS: [&str; 30] = [
     "18446744073709551616",
     "-1",
     "1.5",
+    "0.5",
+    "0.1",
+    "-0",
+    "1e-45",
+    "5.9604645e-8",
     "1e400",
     "inf",
     "nan",
@@ -214,6 +244,70 @@ fn damaged_texts() {
             assert!(count < 200 || refused > 0 && accepted > count / 10);
         }
         Err(complaint) => panic!("{complaint}"),
+    }
+}
+
+/// Reads texts without damage, each as the problem that it was made of. Says how many measures were weights.
+fn read_whole(parse: Parse, seed: u64, count: u64) -> Result<usize, String> {
+    let mut weighed = 0;
+    for index in 0..count {
+        let random = &mut Random::for_case(seed, index);
+        let problem = random::problem(random);
+        let text = text_of(random, &problem);
+        let edges = problem
+            .edges
+            .iter()
+            .map(|e| (e.a as u32, e.b as u32, e.length as u32));
+        let mut expected = Patch::new(problem.n).edges(edges);
+        expected = expected.mu(&problem.mu).nu(&problem.nu);
+        if let Some(tree) = &problem.tree {
+            let parents: Vec<u32> = tree.parents.iter().map(|&p| p as u32).collect();
+            expected = expected.tree(tree.root, &parents);
+        }
+        match parse(&text) {
+            Ok(drawing) if drawing.patch == expected => {}
+            got => return Err(format!("seed {seed}, case {index}: {got:?}\ntext {text:?}")),
+        }
+        weighed += text.matches("weights").count() / 2;
+    }
+    Ok(weighed)
+}
+
+#[test]
+fn whole_texts() {
+    let (seed, count) = (seed(), cases(5_000));
+    match read_whole(parse, seed, count) {
+        Ok(weighed) => println!("whole texts: seed {seed}, {count} cases, {weighed} measures by weights"),
+        Err(complaint) => panic!("{complaint}"),
+    }
+}
+
+/// The test above can fail: measures that are read otherwise are caught.
+#[test]
+fn wrong_measures_are_caught() {
+    let wrong: [(&str, Parse); 3] = [
+        ("weights exchanged", |text| {
+            let text = text.replace("weights before", "weights ?");
+            let text = text.replace("weights after", "weights before");
+            parse(&text.replace("weights ?", "weights after"))
+        }),
+        ("weights taken for grains", |text| {
+            let text = text.replace("weights before", "mu");
+            parse(&text.replace("weights after", "nu"))
+        }),
+        ("half the grains", |text| {
+            let mut drawing = parse(text)?;
+            let (mu, _) = drawing.patch.measures();
+            let halves: Vec<u64> = mu.iter().map(|x| x / 2).collect();
+            drawing.patch = drawing.patch.clone().mu(&halves);
+            Ok(drawing)
+        }),
+    ];
+    assert!(read_whole(parse, 1, 200).is_ok_and(|weighed| weighed > 50));
+    for (name, parse) in wrong {
+        let complaint = read_whole(parse, 1, 200).expect_err(name);
+        let brief: String = complaint.chars().take(80).collect();
+        println!("wrong on purpose, {name}: {brief}");
     }
 }
 

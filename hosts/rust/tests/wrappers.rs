@@ -6,15 +6,17 @@ use reference::random::{Fault, Random};
 use reference::random_lists::{faulty_lists, sound_problem, ListFault, LIST_FAULTS, SHARED_FAULTS};
 use reference::record::Record;
 use reference::runs::{cases, seed};
+use reference::weights::weight;
 use reference::Lists;
 use std::fmt::Debug;
 use weight_mover::calls::{
     mover_distances, mover_distances_of_records, mover_evaluate, mover_is_optimal, mover_mark_ancestors,
-    mover_solve,
+    mover_solve, mover_to_amounts, mover_to_weights,
 };
 use weight_mover::{
-    distances_of_records, distances_of_records_into, mark_ancestors, read, read_into, run, run_into, Answer,
-    Distances, Edge, Evaluation, Graph, Patch, Refusal, Tree,
+    distances_of_records, distances_of_records_into, mark_ancestors, read, read_into, run, run_into,
+    to_amounts, to_amounts_into, to_weights, to_weights_into, Answer, Distances, Edge, Evaluation, Graph,
+    Patch, Refusal, Tree,
 };
 
 /// The graph of some lists, its edges added in any order and their ends either way.
@@ -584,4 +586,61 @@ fn climbs() {
             assert_eq!(number, refusal.number());
         }
     }
+}
+
+fn bits(weights: &[f32]) -> Vec<u32> {
+    weights.iter().map(|w| w.to_bits()).collect()
+}
+
+/// Amounts and their weights, now and then with one among them that is refused.
+fn amounts_and_weights(random: &mut Random) -> (Vec<u64>, Vec<f32>) {
+    let mut amounts: Vec<u64> = (0..random.index(100)).map(|_| random.below(16_777_217)).collect();
+    let float = |&amount: &u64| f32::from_bits(weight(amount).expect("at most 16,777,216"));
+    let mut weights: Vec<f32> = amounts.iter().map(float).collect();
+    if random.chance(3) && !amounts.is_empty() {
+        let at = random.index(amounts.len());
+        amounts[at] = random.pick(&[16_777_217, 1 << 32, u64::MAX]);
+        weights[at] = random.pick(&[f32::NAN, f32::INFINITY, -0.5, 1.5, 0.1, 1e-40]);
+    }
+    (amounts, weights)
+}
+
+/// Weights and amounts are turned as the calls turn them, into new lists and into lists of any length.
+#[test]
+fn weights_and_amounts() {
+    let (seed, count) = (seed(), cases(2_000));
+    let mut seen = [0; 17];
+    for index in 0..count {
+        let random = &mut Random::for_case(seed, index);
+        let (amounts, weights) = amounts_and_weights(random);
+        let length = amounts.len();
+
+        let mut table = vec![7; length];
+        let result = Refusal::check(mover_to_amounts(&weights, &mut table));
+        assert_eq!(
+            to_amounts(&weights),
+            result.map(|_| table),
+            "seed {seed}, case {index}"
+        );
+        let mut table = vec![7.0; length];
+        let result = Refusal::check(mover_to_weights(&amounts, &mut table));
+        let got = to_weights(&amounts).map(|list| bits(&list));
+        assert_eq!(got, result.map(|_| bits(&table)), "seed {seed}, case {index}");
+
+        let places = random.pick(&[length, length + 3, length.saturating_sub(1)]);
+        let (mut table, mut lent) = (vec![7; places], vec![7; places]);
+        let number = mover_to_amounts(&weights, &mut table);
+        assert_eq!(to_amounts_into(&weights, &mut lent), Refusal::check(number));
+        assert_eq!(lent, table, "seed {seed}, case {index}");
+        seen[number as usize] += 1;
+        let (mut table, mut lent) = (vec![7.0; places], vec![7.0; places]);
+        let number = mover_to_weights(&amounts, &mut table);
+        assert_eq!(to_weights_into(&amounts, &mut lent), Refusal::check(number));
+        assert_eq!(bits(&lent), bits(&table), "seed {seed}, case {index}");
+    }
+    println!("weights and amounts: seed {seed}, {count} cases, numbers {seen:?}");
+    assert!(
+        count < 500 || [0, 2, 15, 16].iter().all(|&k| seen[k] > 0),
+        "{seen:?}"
+    );
 }

@@ -5,9 +5,9 @@ use Prim.Native.Nat.{ℕ, _+_, _≤_, _<_}
 use native.Mathlib.Nat.{le-antisymm}
 use native.Mathlib.Omega.{arith}
 use lib.ListN.{length, drop, set, length-set}
-use Rattle.arithmetic.specs.Table.{at, tab}
+use Rattle.arithmetic.specs.Table.{at, tab, written}
 use Rattle.arithmetic.specs.Steps.Fill.{Filling, Filled}
-use Rattle.arithmetic.proofs.Laws.Table.{tab-none, tab-store, front-at}
+use Rattle.arithmetic.proofs.Laws.Table.{length-tab, tab-none, tab-store, front-at}
 
 -- ---- laws
 pub filling-none : {A : Type 0} {n : ℕ} (f : ℕ → A) (l : List A) → n ≤ length l → Filling n f l l 0
@@ -26,6 +26,9 @@ module _ {A : Type 0} {n m : ℕ} {f : ℕ → A} {old new : List A} (w : Fillin
   -- all places
   pub filling-end : n ≤ m → new ≡ tab n f ++ drop n old
   filling-end h = rw (le-antisymm (w .low) h) at (w .front)
+
+  pub filling-written : n ≤ m → new ≡ written 0 (tab n f) old
+  filling-written h = rw (length-tab n f) (filling-end h)
 
 -- and what can be read there
 pub filled-end : {n m : ℕ} {f : ℕ → ℕ} {old new : List ℕ} → Filling n f old new m → n ≤ m → Filled n f old new

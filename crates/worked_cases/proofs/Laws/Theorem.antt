@@ -2,9 +2,10 @@
 use Prim.Native.Nat.{ℕ}
 use mathlib.Core.Path.{_≡_, refl}
 use mathlib.Core.Bool.{true, _&&_}
-use mathlib.Core.List.{[], _∷_, flatMap}
+use mathlib.Core.List.{[], _∷_, flatMap, map}
 use lib.ListN.{take}
 use lib.IntN.{ℤ}
+use lib.Ieee.{ofBits, toBits}
 use Rattle.arithmetic.specs.Bools.{all, any}
 use Rattle.arithmetic.specs.Sum.{sum}
 use Rattle.arithmetic.specs.Integer.{sumℤ}
@@ -16,6 +17,8 @@ use Rattle.graph.specs.Graph.{joined, edgeLength}
 use Rattle.graph.specs.Checks.{verticesOk, listsFit, edgeFits, lengthFits, reached, connected, sizeChecks, edgeChecks}
 use Rattle.tree_walks.specs.MarkAncestors.{markRefusal, markedWords, markTable, markEach}
 use Rattle.tree_checks.specs.Checks.{parentsOk, treeEdgesOk, chainsOk, treeChecks}
+use Rattle.skin_weights.specs.Weight.{inUnitInterval, wholeGrains, amountOf, weightOf}
+use Rattle.skin_weights.specs.Lists.{amountsRefusal, weightsRefusal, amountsOf, weightsOf, amountsTable, weightsTable}
 use Rattle.measures.specs.Checks.{totalOk, totalsEqual, measureChecks}
 use Rattle.given_tree.specs.Given.{parentsLong, answersOk}
 use Rattle.plan_rule.specs.Plan.{moved, matched, layer, layers, plan, moves}
@@ -36,6 +39,7 @@ use Rattle.listing.specs.Listing.{listing, evaluatedListing}
 use Rattle.worked_cases.specs.Figures.{sames, certifies, holds, reads, every}
 use Rattle.worked_cases.specs.Cases.{image-b, cases, images}
 use Rattle.worked_cases.specs.Marks.{marked, mark-cases}
+use Rattle.worked_cases.specs.Weights.{turnsIn, turnsOut, weight-cases, amount-cases}
 
 pub cases-hold : every holds cases && every reads images ≡ true
 unfolding all any sum sumℤ tab rows climb below depth joined edgeLength refusal verticesOk listsFit edgeFits lengthFits reached connected sizeChecks edgeChecks totalOk totalsEqual parentsOk treeEdgesOk chainsOk measureChecks treeChecks parentsLong answersOk imbalance potential treeCost flatMap least parentTables costs bestCost measuresLong solveRefusal lowest moved layer layers plan moves two sizeOk sectionOk layoutOk roomOk imageChecks byteOf recordBytes answerRefusal evaluatedRecord digits entryLine rowLines planLines evaluatedListing listing sames certifies holds reads every cases images matched
@@ -50,3 +54,8 @@ image-b-cost p u = refl
 pub marks-hold : every marked mark-cases ≡ true
 unfolding all tab climb below refusal verticesOk parentsOk chainsOk markRefusal markedWords markTable markEach sames every marked
 marks-hold = refl
+
+-- and its weights
+pub weights-hold : every turnsIn weight-cases && every turnsOut amount-cases ≡ true
+unfolding all tab refusal ofBits toBits map inUnitInterval wholeGrains amountOf weightOf amountsRefusal weightsRefusal amountsOf weightsOf amountsTable weightsTable sames every turnsIn turnsOut
+weights-hold = refl

@@ -6,6 +6,7 @@
 //! | [`problem`] | a graph, two measures, an optional spanning tree; the image format |
 //! | [`checks`] | the refusal numbers, by the table of the specification |
 //! | [`lists`] | the arguments of the calls over tables, and their refusals |
+//! | [`weights`] | 32-bit floats and the grains that they stand for, from their bits |
 //! | [`tree`] | evaluation of a given spanning tree, word for word as defined |
 //! | [`flow`] | distances by Dijkstra, the least cost by successive shortest paths |
 //! | [`exhaustive`] | all spanning trees and all plans of a small problem |
@@ -28,6 +29,7 @@ pub mod random_trees;
 pub mod record;
 pub mod runs;
 pub mod tree;
+pub mod weights;
 
 pub use lists::Lists;
 pub use problem::{Edge, Layout, Problem, Tree};

@@ -6,6 +6,16 @@ use weight_mover::Edge;
 /// A number, or a record of them, with any content.
 pub trait Draw: Copy + PartialEq {
     fn draw(random: &mut Random) -> Self;
+
+    /// Whether both are the same, bit for bit.
+    fn same(&self, other: &Self) -> bool {
+        self == other
+    }
+}
+
+/// Whether two tables are the same, place by place.
+pub fn same<T: Draw>(first: &[T], second: &[T]) -> bool {
+    first.len() == second.len() && first.iter().zip(second).all(|(x, y)| x.same(y))
 }
 
 impl Draw for u8 {
@@ -29,6 +39,17 @@ impl Draw for i32 {
 impl Draw for u64 {
     fn draw(random: &mut Random) -> u64 {
         random.word()
+    }
+}
+
+impl Draw for f32 {
+    fn draw(random: &mut Random) -> f32 {
+        f32::from_bits(random.word() as u32)
+    }
+
+    /// By the bits: what is no number is not equal to itself, and 0 has two signs.
+    fn same(&self, other: &f32) -> bool {
+        self.to_bits() == other.to_bits()
     }
 }
 
@@ -110,22 +131,23 @@ impl<T: Draw> Lent<T> {
     }
 
     pub fn guards_are_whole(&self) -> bool {
-        self.all[..self.start] == self.copy[..self.start] && self.all[self.end..] == self.copy[self.end..]
+        same(&self.all[..self.start], &self.copy[..self.start])
+            && same(&self.all[self.end..], &self.copy[self.end..])
     }
 
     pub fn is_as_lent(&self) -> bool {
-        self.all == self.copy
+        same(&self.all, &self.copy)
     }
 
     /// Whether the places from this one on are as they were lent.
     pub fn rest_is_as_lent(&self, from: usize) -> bool {
-        self.content()[from..] == self.before()[from..]
+        same(&self.content()[from..], &self.before()[from..])
     }
 
     /// Changes the guard place right after the content, or right before it; the one that is there.
     pub fn break_guard(&mut self, random: &mut Random, after: bool) {
         let at = if after { self.end } else { self.start - 1 };
-        while self.all[at] == self.copy[at] {
+        while self.all[at].same(&self.copy[at]) {
             self.all[at] = T::draw(random);
         }
     }

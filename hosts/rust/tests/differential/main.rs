@@ -7,11 +7,13 @@
 //! | `reader` | `mover_read` |
 //! | `trees` | the tree by value |
 //! | `ancestors` | `mover_mark_ancestors` |
+//! | `weights` | `mover_to_amounts`, `mover_to_weights` |
 //!
 //! Tests whose names begin with `wrong_` make calls wrong on purpose, and want the others to notice.
 //!
 //! `MOVER_CASES` sets the number of images of each kind, and all other numbers of cases by it; `MOVER_SEED`
-//! repeats a run. Under a memory checker: `hosts/rust/valgrind`.
+//! repeats a run. Under a memory checker: `hosts/rust/valgrind`. One test, of every float there is, runs only
+//! if it is asked for: `cargo test --release --test differential -- --ignored`.
 
 mod ancestors;
 mod images;
@@ -21,7 +23,9 @@ mod reader;
 mod spoils;
 mod tables;
 mod trees;
+mod weights;
 mod wrong_tables;
+mod wrong_weights;
 
 fn pass<T>(result: Result<T, String>) -> T {
     result.unwrap_or_else(|complaint| panic!("{complaint}"))

@@ -1,0 +1,5 @@
+pub mod Compared
+pub mod Scaled
+pub mod Lists
+pub mod Exact
+pub mod Again

@@ -325,7 +325,7 @@ fn lists_of_amounts() {
 
 /// Each of the 2^32 floats, once.
 #[test]
-#[ignore = "every float there is, which takes a minute or more"]
+#[ignore = "every float there is, which takes half a minute in release"]
 fn every_bit_pattern() {
     let threads = thread::available_parallelism().map_or(1, usize::from) as u64;
     let part = |k: u64| {

@@ -1,6 +1,7 @@
 /* What the header promises and the example does not show: tables between guard places, every refusal number of every call with all
- * tables as lent, empty tables without an address, images at odd addresses, the writer of images, damaged trees, climbs in any order
- * on any words, every amount as a weight and back, weights of any bits, and the stack that a call uses.
+ * tables as lent, empty tables without an address, images at odd addresses, images written and rewritten against images that are built
+ * here without the library, damaged images and trees, climbs in any order on any words, every amount as a weight and back, weights of
+ * any bits, and the stack that a call uses.
  * A line for each group, and "N passed, M failed" last. */
 #define _POSIX_C_SOURCE 200112L
 #include "mover.h"
@@ -39,13 +40,33 @@ static void *lend(lent *table) {
   return bytes + GUARD;
 }
 
+/* Is all of it as it was, but for `written` bytes from byte `start` of what was lent? */
+static int kept_but(const lent *table, size_t start, size_t written) {
+  const uint8_t *bytes = (const uint8_t *)table->block;
+  size_t first = GUARD + start, i;
+  for (i = 0; i < sizeof table->block; i++)
+    if ((i < first || i >= first + written) && bytes[i] != mark(i)) return 0;
+  return 1;
+}
+
 /* Is all of it as it was, but for the first `written` bytes of what was lent? */
 static int kept_past(const lent *table, size_t written) {
-  const uint8_t *bytes = (const uint8_t *)table->block;
-  size_t i;
-  for (i = 0; i < sizeof table->block; i++)
-    if ((i < GUARD || i >= GUARD + written) && bytes[i] != mark(i)) return 0;
-  return 1;
+  return kept_but(table, 0, written);
+}
+
+/* ---- numbers drawn */
+
+/* A generator of numbers (SplitMix64), from the same seed in every run. */
+static uint64_t draw(void) {
+  static uint64_t state = 204;
+  uint64_t z = state += 0x9e3779b97f4a7c15u;
+  z = (z ^ z >> 30) * 0xbf58476d1ce4e5b9u;
+  z = (z ^ z >> 27) * 0x94d049bb133111ebu;
+  return z ^ z >> 31;
+}
+
+static size_t draw_below(size_t bound) {
+  return (size_t)(draw() % bound);
 }
 
 /* ---- problems: document 01's examples of refusals, and cases that are accepted */
@@ -88,7 +109,8 @@ static const problem problems[] = {
     {"parents 0 0 0", 9, 3, 2, 2, 2, {0, 1}, {1, 2}, {1, 1}, 3, 3, {1}, {0, 0, 1}, 0, 3, {0, 0, 0}},
     {"parents 0 2 1", 10, 3, 2, 2, 2, {0, 1}, {1, 2}, {1, 1}, 3, 3, {1}, {0, 0, 1}, 0, 3, {0, 2, 1}},
 };
-enum { CASE_A = 0, CASE_B = 1, NO_VERTEX = 4, PROBLEMS = sizeof problems / sizeof problems[0], CYCLE = PROBLEMS - 1 };
+enum { CASE_A = 0, CASE_B = 1, NO_VERTEX = 4, MANY_VERTICES = 5, MANY_EDGES = 9 };
+enum { PROBLEMS = sizeof problems / sizeof problems[0], CYCLE = PROBLEMS - 1 };
 
 static uint32_t up_to(uint32_t number, uint32_t last) {
   return number <= last ? number : 0;
@@ -244,6 +266,29 @@ static void check_figures(void) {
   expect(cost == 4 && moves == 1, "cost 4, moves 1", "case B", moves);
 }
 
+/* An image of one vertex from no edges and, without a tree, no parents; no buffer is refused last, no image first. */
+static void check_empty_images(void) {
+  const uint64_t seven = 7;
+  uint8_t image[44], again[44];
+  size_t length = 99;
+  expect(mover_write_image(1, NULL, 0, NULL, 0, NULL, 0, &seven, 1, &seven, 1, false, 0, NULL, 0, image, 44, &length) == 0 && length == 44,
+         "no edges, no parents", "mover_write_image", (unsigned)length);
+  expect(mover_rewrite(image, 44, again, 44, &length) == 0 && length == 44 && !memcmp(image, again, 44), "no edges, no parents",
+         "mover_rewrite", (unsigned)length);
+  expect(mover_rewrite(image, 44, NULL, 0, &length) == 2 && length == 0, "no buffer", "mover_rewrite", (unsigned)length);
+  length = 99;
+  expect(mover_write_image(1, NULL, 0, NULL, 0, NULL, 0, &seven, 1, &seven, 1, false, 0, NULL, 0, NULL, 0, &length) == 2 && length == 0,
+         "no buffer", "mover_write_image", (unsigned)length);
+  length = 99;
+  expect(mover_write_image(1, NULL, 0, NULL, 0, NULL, 0, &seven, 1, &seven, 1, true, 0, NULL, 0, image, 44, &length) == 2 && length == 0,
+         "a tree without parents", "mover_write_image", (unsigned)length);
+  length = 99;
+  expect(mover_write_image(0, NULL, 0, NULL, 0, NULL, 0, NULL, 0, NULL, 0, true, 0, NULL, 0, NULL, 0, &length) == 1 && length == 0,
+         "nothing at all", "mover_write_image", (unsigned)length);
+  length = 99;
+  expect(mover_rewrite(NULL, 0, NULL, 0, &length) == 11 && length == 0, "nothing at all", "mover_rewrite", (unsigned)length);
+}
+
 /* Tables of length 0 need no address. */
 static void check_empty(void) {
   uint64_t seven = 7, cost = 99;
@@ -269,11 +314,78 @@ static void check_empty(void) {
   expect(cost == 0 && weight == 0.5f, "nothing written", "mover_to_...", 0);
   expect(mover_to_amounts(&weight, 1, NULL, 0) == 2 && mover_to_weights(&cost, 1, NULL, 0) == 2, "no room", "mover_to_...", 0);
   expect(mover_run(NULL, 0, NULL, 0) == 11, "nothing at all", "mover_run", 0);
+  check_empty_images();
   tree = mover_tree_new(3, 1, NULL, 0);
   expect(tree.n == 3 && tree.root == 1 && tree.parents[2] == 0 && mover_tree_parent(tree, 1) == 64, "no parents", "mover_tree_new", 0);
 }
 
-/* ---- images */
+/* ---- images built from the header's words, without the library: also such as no call writes */
+
+enum { BUILT = MOVER_IMAGE_MAX + 64 }; /* room for each of them */
+
+/* Bytes before each section and behind the last, what they are filled with, and by how many bytes each section is longer than n and m
+ * ask, or shorter. */
+typedef struct layout {
+  size_t before[4], behind;
+  uint8_t fill;
+  int more[4];
+} layout;
+
+static const layout back_to_back = {{0}, 0, 0, {0}};
+
+/* A number in so many bytes, the least one first. */
+static void put(uint8_t *to, uint64_t value, size_t bytes) {
+  size_t i;
+  for (i = 0; i < bytes; i++) to[i] = (uint8_t)(value >> 8 * i);
+}
+
+static size_t put_filler(uint8_t *to, size_t bytes, uint8_t fill) {
+  size_t i;
+  for (i = 0; i < bytes; i++) to[i] = (uint8_t)(fill + 167 * i);
+  return bytes;
+}
+
+/* The edges, mu, nu or the tree; returns the section's length. */
+static size_t put_section(const problem *p, bool tree, size_t section, uint8_t *to) {
+  const uint64_t *amounts = section == 1 ? p->mu : p->nu;
+  size_t i;
+  if (section == 0) {
+    for (i = 0; i < p->a_len; i++) {
+      put(to + 4 * i, p->a[i], 1);
+      put(to + 4 * i + 1, p->b[i], 1);
+      put(to + 4 * i + 2, p->lengths[i], 2);
+    }
+    return 4 * p->a_len;
+  }
+  if (section < 3) {
+    for (i = 0; i < p->n; i++) put(to + 4 * i, amounts[i], 4);
+    return 4 * p->n;
+  }
+  if (!tree) return 0;
+  put(to, p->root, 1);
+  for (i = 0; i < p->n; i++) put(to + 1 + i, p->parents[i], 1);
+  return 1 + p->n;
+}
+
+/* The image of a problem, with its tree or without; returns its length. */
+static size_t build_image(const problem *p, bool tree, const layout *l, uint8_t *image) {
+  size_t at = 36, length, k;
+  put(image, p->n, 1);
+  put(image + 1, 0, 1);
+  put(image + 2, p->a_len, 2);
+  for (k = 0; k < 4; k++) {
+    at += put_filler(image + at, l->before[k], l->fill);
+    length = put_section(p, tree, k, image + at);
+    if (l->more[k] > 0) put_filler(image + at + length, (size_t)l->more[k], l->fill);
+    length += (size_t)l->more[k];
+    put(image + 4 + 8 * k, at, 4);
+    put(image + 8 + 8 * k, length, 4);
+    at += length;
+  }
+  return at + put_filler(image + at, l->behind, l->fill);
+}
+
+/* ---- the reader and the entry */
 
 typedef struct tables {
   lent a, b, lengths, mu, nu, parents;
@@ -297,21 +409,10 @@ static void check_read(const char *name, const uint8_t *image, size_t length, co
   expect(kept_past(&t.parents, tree ? 4 * n : 0), "the parents' guards", name, number);
 }
 
-static size_t image_of(const problem *p, int with_tree, uint8_t *image, size_t length) {
-  mover_edge edges[4];
-  size_t e;
-  for (e = 0; e < p->a_len; e++) {
-    edges[e].a = p->a[e];
-    edges[e].b = p->b[e];
-    edges[e].length = p->lengths[e];
-  }
-  return mover_image_write(p->n, edges, p->a_len, p->mu, p->nu, p->root, with_tree ? p->parents : NULL, image, length);
-}
-
 static void check_reader(void) {
-  static const size_t exact[6] = {3, 3, 3, 4, 4, 4}, longer[6] = {3, 9, 512, 64, 5, 6};
-  uint8_t image[128];
-  size_t length = image_of(&problems[CASE_A], 1, image, sizeof image), short_by_one[6], k;
+  static const size_t exact[6] = {3, 3, 3, 4, 4, 4}, longer[6] = {3, 9, 512, 64, 5, 6}, ample[6] = {E, E, E, V, V, V};
+  static uint8_t image[BUILT];
+  size_t length = build_image(&problems[CASE_A], true, &back_to_back, image), short_by_one[6], k;
   check_read("case A", image, length, exact, 0, 4, 3, 3, 1);
   check_read("case A, long lists", image, length, longer, 0, 4, 3, 3, 1);
   for (k = 0; k < 6; k++) {
@@ -328,10 +429,14 @@ static void check_reader(void) {
   image[1] = 0;
   image[16] = 15;
   check_read("mu of 15 bytes", image, length, exact, 13, 0, 0, 0, 0);
-  length = image_of(&problems[CASE_A], 0, image, sizeof image);
+  length = build_image(&problems[CASE_A], false, &back_to_back, image);
   check_read("case A without its tree", image, length, exact, 0, 4, 3, 0, 0);
-  length = image_of(&problems[NO_VERTEX], 0, image, sizeof image);
+  length = build_image(&problems[NO_VERTEX], false, &back_to_back, image);
   check_read("no vertex", image, length, exact, 1, 0, 0, 0, 0);
+  length = build_image(&problems[MANY_VERTICES], true, &back_to_back, image);
+  check_read("65 vertices", image, length, ample, 1, 0, 0, 0, 0);
+  length = build_image(&problems[MANY_EDGES], true, &back_to_back, image);
+  check_read("513 edges", image, length, ample, 2, 0, 0, 0, 0);
 }
 
 /* The entry, with image and record at every place of eight bytes. */
@@ -342,7 +447,7 @@ static void check_run(void) {
   size_t shift, length;
   lent record;
   uint8_t *at = (uint8_t *)lend(&record);
-  length = image_of(&problems[CASE_A], 1, block, 128);
+  length = build_image(&problems[CASE_A], true, &back_to_back, block);
   expect(mover_run(block, length, first, size) == 0 && mover_cost(first) == 22 && mover_moves(first) == 2, "case A", "mover_run", 0);
   expect(mover_root(first) == 3 && mover_parent(first, 0) == 1 && mover_potential(first, 4, 0) == 6 && mover_amount(first, 4, 0, 3) == 3,
          "the record", "mover_run", 0);
@@ -354,40 +459,716 @@ static void check_run(void) {
     expect(mover_run(moved + shift, length, moved + 128 + shift, size) == 0, "an odd address", "mover_run", (unsigned)shift);
     expect(!memcmp(moved + 128 + shift, first, size), "the record at an odd address", "mover_run", (unsigned)shift);
   }
-  length = image_of(&problems[CYCLE], 1, block, 128);
+  length = build_image(&problems[CYCLE], true, &back_to_back, block);
   lend(&record);
   expect(mover_run(block, length, at, ROOM) == 10 && kept_past(&record, 0), "parents 0 2 1", "mover_run", 10);
 }
 
-/* The writer says how long an image is, or 0 and writes nothing. */
+/* ---- images that a call writes */
+
+/* What a call left: its number, the length, and the block in which its buffer stands, from byte `shift` of what is lent. */
+typedef struct outcome {
+  uint32_t number;
+  size_t length, shift;
+  lent block;
+} outcome;
+
+static uint8_t *lend_buffer(outcome *w, size_t shift) {
+  w->length = 99;
+  w->shift = shift;
+  return (uint8_t *)lend(&w->block) + shift;
+}
+
+/* What is not as wanted, or NULL: an image of this length stands in the buffer, none after a refusal, and all round it is as lent. */
+static const char *wrong_in(const outcome *w, uint32_t number, const uint8_t *image, size_t length) {
+  const uint8_t *buffer = (const uint8_t *)w->block.block + GUARD + w->shift;
+  if (w->number != number) return "the number";
+  if (w->length != length) return "the length";
+  if (memcmp(buffer, image, length) != 0) return "the bytes";
+  return kept_but(&w->block, w->shift, length) ? NULL : "the bytes round it";
+}
+
+static int expect_written(const char *name, const outcome *w, uint32_t number, const uint8_t *image, size_t length) {
+  const char *wrong = wrong_in(w, number, image, length);
+  expect(wrong == NULL, wrong ? wrong : "", name, w->number);
+  return wrong == NULL;
+}
+
+/* What the reader finds in an image, in lists that are long enough for every one; their other places hold 0. */
+typedef struct reading {
+  uint32_t number, tree, a[512], b[512], lengths[512], parents[64];
+  uint64_t mu[64], nu[64];
+  size_t n, m, root;
+} reading;
+
+static void read_all(reading *r, const uint8_t *image, size_t length) {
+  memset(r, 0, sizeof *r);
+  r->number = mover_read(image, length, r->a, 512, r->b, 512, r->lengths, 512, r->mu, 64, r->nu, 64, r->parents, 64, &r->n, &r->m, &r->root,
+                         &r->tree);
+}
+
+/* Does the reader find in an image just what was to be written? */
+static int reads_as(const uint8_t *image, size_t length, const problem *p, bool tree) {
+  static reading r;
+  size_t edges = 4 * p->a_len, amounts = 8 * p->n;
+  read_all(&r, image, length);
+  if (r.number != 0 || r.n != p->n || r.m != p->a_len || r.tree != tree || r.root != (tree ? p->root : 0)) return 0;
+  if (memcmp(r.a, p->a, edges) || memcmp(r.b, p->b, edges) || memcmp(r.lengths, p->lengths, edges)) return 0;
+  if (memcmp(r.mu, p->mu, amounts) || memcmp(r.nu, p->nu, amounts)) return 0;
+  return !tree || !memcmp(r.parents, p->parents, 4 * p->n);
+}
+
+/* ---- the writer */
+
+/* The number that the writer is to give. */
+static uint32_t writer_number(const problem *p, bool tree, size_t room) {
+  size_t n = p->n, m = p->a_len, i;
+  if (n == 0 || n > 64) return 1;
+  if (m > 512 || p->b_len != m || p->lengths_len != m || p->mu_len != n || p->nu_len != n) return 2;
+  if (tree && p->parents_len != n) return 2;
+  if (room < 36 + 4 * m + 8 * n + (tree ? n + 1 : 0)) return 2;
+  for (i = 0; i < m; i++)
+    if (p->a[i] > 255 || p->b[i] > 255 || p->lengths[i] > 65535) return 13;
+  for (i = 0; i < n; i++)
+    if (p->mu[i] >> 32 != 0 || p->nu[i] >> 32 != 0 || (tree && p->parents[i] > 255)) return 13;
+  return tree && p->root > 255 ? 13 : 0;
+}
+
+static uint32_t write_image(const problem *p, bool tree, uint8_t *buffer, size_t room, size_t *length) {
+  return mover_write_image(p->n, p->a, p->a_len, p->b, p->b_len, p->lengths, p->lengths_len, p->mu, p->mu_len, p->nu, p->nu_len, tree,
+                           p->root, p->parents, p->parents_len, buffer, room, length);
+}
+
+/* Writes into a buffer of so many bytes and compares with the built image; returns the number that is wanted. */
+static uint32_t check_write(const char *name, const problem *p, bool tree, size_t shift, size_t room) {
+  static outcome w;
+  static problem given;
+  static uint8_t image[BUILT];
+  uint32_t wanted = writer_number(p, tree, room);
+  size_t length = wanted == MOVER_OK ? build_image(p, tree, &back_to_back, image) : 0;
+  uint8_t *buffer = lend_buffer(&w, shift);
+  memcpy(&given, p, sizeof given);
+  w.number = write_image(p, tree, buffer, room, &w.length);
+  expect(!memcmp(&given, p, sizeof given), "what was given", name, w.number);
+  if (!expect_written(name, &w, wanted, image, length) || wanted != MOVER_OK) return wanted;
+  expect(reads_as(buffer, length, p, tree), "what was given, read", name, 0);
+  expect(length == MOVER_IMAGE_SIZE(p->n, p->a_len) + (tree ? p->n + 1 : 0), "MOVER_IMAGE_SIZE", name, (unsigned)length);
+  return wanted;
+}
+
+/* Every problem, at every place of eight bytes: buffers as long as the image, longer and too short. What only 3 to 10 refuse is written
+ * as it is, but for two numbers that no image holds. */
+static void check_written_problems(void) {
+  size_t k, shift;
+  for (k = 0; k < 2 * PROBLEMS; k++) {
+    const problem *p = &problems[k / 2];
+    bool tree = k % 2 == 1;
+    size_t length = MOVER_IMAGE_SIZE(p->n, p->a_len) + (tree ? p->n + 1 : 0);
+    uint32_t wanted = up_to(p->number, 2);
+    if (p->lengths[0] == 65536 || p->mu[0] == UINT64_MAX) wanted = 13;
+    for (shift = 0; shift < 8; shift++) {
+      expect(check_write(p->name, p, tree, shift, length) == wanted, p->name, "the image's length", wanted);
+      expect(check_write(p->name, p, tree, shift, length + 1) == wanted, p->name, "one byte more", wanted);
+      expect(check_write(p->name, p, tree, shift, ROOM - shift) == wanted, p->name, "many more", wanted);
+      expect(check_write(p->name, p, tree, shift, length - 1) == (wanted == 1 ? 1 : 2), p->name, "one byte too few", wanted);
+      expect(check_write(p->name, p, tree, shift, 0) == (wanted == 1 ? 1 : 2), p->name, "no buffer", wanted);
+    }
+  }
+}
+
+/* Case A's image. */
+static const uint8_t image_a[85] = {
+    4, 0, 3, 0,                                     /* n, 0, m */
+    36, 0, 0, 0, 12, 0, 0, 0,                       /* the edges: offset and length */
+    48, 0, 0, 0, 16, 0, 0, 0,                       /* mu */
+    64, 0, 0, 0, 16, 0, 0, 0,                       /* nu */
+    80, 0, 0, 0, 5, 0, 0, 0,                        /* the tree */
+    0, 1, 2, 0, 1, 2, 3, 0, 2, 3, 1, 0,             /* the edges: a, b, length */
+    5, 0, 0, 0, 0, 0, 0, 0, 1, 0, 0, 0, 0, 0, 0, 0, /* mu */
+    0, 0, 0, 0, 2, 0, 0, 0, 1, 0, 0, 0, 3, 0, 0, 0, /* nu */
+    3, 1, 2, 3, 3,                                  /* root, parents */
+};
+
+/* Numbers whose bytes differ, and their image. */
+static const problem problem_bytes = {"many bytes", 0, 1, 1, 1, 1, {254}, {253}, {0x201}, 1, 1, {0x6050403}, {0xfaf9f8f7}, 252, 1, {251}};
+static const uint8_t image_bytes[50] = {
+    1, 0, 1, 0,              /* n, 0, m */
+    36, 0, 0, 0, 4, 0, 0, 0, /* the edges: offset and length */
+    40, 0, 0, 0, 4, 0, 0, 0, /* mu */
+    44, 0, 0, 0, 4, 0, 0, 0, /* nu */
+    48, 0, 0, 0, 2, 0, 0, 0, /* the tree */
+    254, 253, 1, 2,          /* the edge: a, b, length */
+    3, 4, 5, 6,              /* mu */
+    0xf7, 0xf8, 0xf9, 0xfa,  /* nu */
+    252, 251,                /* root, parent */
+};
+
+/* The greatest numbers that an image holds, at unused places too. */
+static void fill_greatest(problem *p) {
+  size_t i;
+  memset(p, 0, sizeof *p);
+  p->name = "the greatest numbers";
+  p->n = p->mu_len = p->nu_len = p->parents_len = 64;
+  p->a_len = p->b_len = p->lengths_len = 512;
+  p->root = 255;
+  for (i = 0; i < E; i++) {
+    p->a[i] = p->b[i] = 255;
+    p->lengths[i] = 65535;
+  }
+  for (i = 0; i < V; i++) {
+    p->mu[i] = p->nu[i] = 4294967295u;
+    p->parents[i] = 255;
+  }
+}
+
+/* The start of their image; all of its sections' bytes are 255. */
+static const uint8_t image_greatest[36] = {
+    64, 0, 0, 2,               /* n, 0, m */
+    36, 0, 0, 0, 0, 8, 0, 0,   /* the edges: 36 and 2048 */
+    36, 8, 0, 0, 0, 1, 0, 0,   /* mu: 2084 and 256 */
+    36, 9, 0, 0, 0, 1, 0, 0,   /* nu: 2340 and 256 */
+    36, 10, 0, 0, 65, 0, 0, 0, /* the tree: 2596 and 65 */
+};
+
+/* An image that stands here byte for byte: written, and built. */
+static void check_literal(const problem *p, bool tree, const uint8_t *image, size_t length) {
+  static outcome w;
+  static uint8_t built[BUILT];
+  w.number = write_image(p, tree, lend_buffer(&w, 0), ROOM, &w.length);
+  expect_written(p->name, &w, MOVER_OK, image, length);
+  expect(build_image(p, tree, &back_to_back, built) == length && !memcmp(built, image, length), p->name, "built", (unsigned)length);
+}
+
+static void check_literals(void) {
+  static problem greatest;
+  uint8_t image[MOVER_IMAGE_WRITTEN_MAX];
+  check_literal(&problems[CASE_A], true, image_a, sizeof image_a);
+  memcpy(image, image_a, 80);
+  image[32] = 0; /* the length of the tree */
+  check_literal(&problems[CASE_A], false, image, 80);
+  check_literal(&problem_bytes, true, image_bytes, sizeof image_bytes);
+  fill_greatest(&greatest);
+  memset(image, 255, sizeof image);
+  memcpy(image, image_greatest, sizeof image_greatest);
+  check_literal(&greatest, true, image, 2661);
+  image[32] = 0;
+  check_literal(&greatest, false, image, 2596);
+  expect(MOVER_IMAGE_SIZE(64, 512) + 65 == MOVER_IMAGE_WRITTEN_MAX, "MOVER_IMAGE_WRITTEN_MAX", "bytes", MOVER_IMAGE_WRITTEN_MAX);
+}
+
+/* The numbers that a patch with its paintings and tree is made of, and the lengths of its lists. */
+typedef enum field {
+  AT_N, AT_ROOT, AT_A, AT_B, AT_LENGTHS, AT_MU, AT_NU, AT_PARENTS,
+  A_LEN, B_LEN, LENGTHS_LEN, MU_LEN, NU_LEN, PARENTS_LEN
+} field;
+
+/* Sets one of them, in a list that of place i. */
+static void set_field(problem *p, field where, size_t i, uint64_t value) {
+  switch (where) {
+    case AT_N: p->n = value; break;
+    case AT_ROOT: p->root = value; break;
+    case AT_A: p->a[i] = (uint32_t)value; break;
+    case AT_B: p->b[i] = (uint32_t)value; break;
+    case AT_LENGTHS: p->lengths[i] = (uint32_t)value; break;
+    case AT_MU: p->mu[i] = value; break;
+    case AT_NU: p->nu[i] = value; break;
+    case AT_PARENTS: p->parents[i] = (uint32_t)value; break;
+    case A_LEN: p->a_len = value; break;
+    case B_LEN: p->b_len = value; break;
+    case LENGTHS_LEN: p->lengths_len = value; break;
+    case MU_LEN: p->mu_len = value; break;
+    case NU_LEN: p->nu_len = value; break;
+    case PARENTS_LEN: p->parents_len = value; break;
+  }
+}
+
+/* One of the greatest numbers changed, and what the writer then returns: without a tree, and with one. */
+static const struct variant {
+  const char *name;
+  field where;
+  uint64_t value;
+  uint32_t without, with;
+} variants[] = {
+    {"n 0", AT_N, 0, 1, 1},
+    {"n 63", AT_N, 63, 2, 2},
+    {"n 65", AT_N, 65, 1, 1},
+    {"n 256 + 64", AT_N, 320, 1, 1},
+    {"n 2^32 + 64", AT_N, 4294967360u, 1, 1},
+    {"n SIZE_MAX", AT_N, SIZE_MAX, 1, 1},
+    {"no a", A_LEN, 0, 2, 2},
+    {"a short", A_LEN, 511, 2, 2},
+    {"a long", A_LEN, 513, 2, 2},
+    {"no b", B_LEN, 0, 2, 2},
+    {"b short", B_LEN, 511, 2, 2},
+    {"b long", B_LEN, 513, 2, 2},
+    {"no lengths", LENGTHS_LEN, 0, 2, 2},
+    {"lengths short", LENGTHS_LEN, 511, 2, 2},
+    {"lengths long", LENGTHS_LEN, 513, 2, 2},
+    {"no mu", MU_LEN, 0, 2, 2},
+    {"mu short", MU_LEN, 63, 2, 2},
+    {"mu long", MU_LEN, 65, 2, 2},
+    {"no nu", NU_LEN, 0, 2, 2},
+    {"nu short", NU_LEN, 63, 2, 2},
+    {"nu long", NU_LEN, 65, 2, 2},
+    {"no parents", PARENTS_LEN, 0, 0, 2},
+    {"parents short", PARENTS_LEN, 63, 0, 2},
+    {"parents long", PARENTS_LEN, 65, 0, 2},
+    {"an end a 0", AT_A, 0, 0, 0},
+    {"an end a 256", AT_A, 256, 13, 13},
+    {"an end a UINT32_MAX", AT_A, UINT32_MAX, 13, 13},
+    {"an end b 0", AT_B, 0, 0, 0},
+    {"an end b 256", AT_B, 256, 13, 13},
+    {"an end b UINT32_MAX", AT_B, UINT32_MAX, 13, 13},
+    {"a length 0", AT_LENGTHS, 0, 0, 0},
+    {"a length 65536", AT_LENGTHS, 65536, 13, 13},
+    {"a length UINT32_MAX", AT_LENGTHS, UINT32_MAX, 13, 13},
+    {"an amount 0 before", AT_MU, 0, 0, 0},
+    {"an amount 2^32 before", AT_MU, 4294967296u, 13, 13},
+    {"an amount UINT64_MAX before", AT_MU, UINT64_MAX, 13, 13},
+    {"an amount 0 after", AT_NU, 0, 0, 0},
+    {"an amount 2^32 after", AT_NU, 4294967296u, 13, 13},
+    {"an amount UINT64_MAX after", AT_NU, UINT64_MAX, 13, 13},
+    {"root 0", AT_ROOT, 0, 0, 0},
+    {"root 256", AT_ROOT, 256, 0, 13},
+    {"root 2^32", AT_ROOT, 4294967296u, 0, 13},
+    {"root SIZE_MAX", AT_ROOT, SIZE_MAX, 0, 13},
+    {"a parent 0", AT_PARENTS, 0, 0, 0},
+    {"a parent 256", AT_PARENTS, 256, 0, 13},
+    {"a parent UINT32_MAX", AT_PARENTS, UINT32_MAX, 0, 13},
+};
+enum { VARIANTS = sizeof variants / sizeof variants[0] };
+
+/* How many places the greatest numbers have for it. */
+static size_t places_of(field where) {
+  if (where == AT_A || where == AT_B || where == AT_LENGTHS) return 512;
+  return where == AT_MU || where == AT_NU || where == AT_PARENTS ? 64 : 1;
+}
+
+/* Each variant, at every place of a list. */
+static void check_variants(void) {
+  static problem greatest, p;
+  size_t k, i;
+  fill_greatest(&greatest);
+  for (k = 0; k < VARIANTS; k++) {
+    const struct variant *c = &variants[k];
+    for (i = 0; i < places_of(c->where); i++) {
+      p = greatest;
+      set_field(&p, c->where, i, c->value);
+      expect(check_write(c->name, &p, false, 0, 2596) == c->without, c->name, "without a tree, at", (unsigned)i);
+      expect(check_write(c->name, &p, true, 0, 2661) == c->with, c->name, "with a tree, at", (unsigned)i);
+    }
+  }
+}
+
+/* Of two numbers the one that comes first in the writer's order, which is 1, 2, 13. */
+static uint32_t first_of(uint32_t one, uint32_t other) {
+  return one == 0 || (other != 0 && other < one) ? other : one;
+}
+
+/* Each two variants in one, the latter at the end of its list; each variant with a buffer that is too short, and with 513 edges. */
+static void check_two_variants(void) {
+  static problem greatest, p;
+  size_t k, l;
+  fill_greatest(&greatest);
+  for (k = 0; k < VARIANTS; k++) {
+    const struct variant *c = &variants[k], *d;
+    for (l = 0; l < VARIANTS; l++) {
+      d = &variants[l];
+      if (d->where == c->where) continue;
+      p = greatest;
+      set_field(&p, c->where, 0, c->value);
+      set_field(&p, d->where, places_of(d->where) - 1, d->value);
+      expect(check_write(c->name, &p, false, 1, ROOM - 1) == first_of(c->without, d->without), c->name, d->name, 0);
+      expect(check_write(c->name, &p, true, 1, ROOM - 1) == first_of(c->with, d->with), c->name, d->name, 1);
+    }
+    p = greatest;
+    set_field(&p, c->where, 0, c->value);
+    expect(check_write(c->name, &p, false, 0, 2595) == first_of(c->without, 2), c->name, "a short buffer", 0);
+    expect(check_write(c->name, &p, true, 0, 2660) == first_of(c->with, 2), c->name, "a short buffer", 1);
+    p.a_len = p.b_len = p.lengths_len = 513;
+    expect(check_write(c->name, &p, false, 0, ROOM) == first_of(c->without, 2), c->name, "513 edges", 0);
+    expect(check_write(c->name, &p, true, 0, ROOM) == first_of(c->with, 2), c->name, "513 edges", 1);
+  }
+}
+
+/* Without a tree there need be no parents, and root and parents change no byte. */
+static void check_no_tree(void) {
+  static const uint32_t parents[3] = {256, UINT32_MAX, 0};
+  static outcome w;
+  const problem *p = &problems[CASE_A];
+  uint8_t image[80];
+  memcpy(image, image_a, 80);
+  image[32] = 0;
+  w.number = mover_write_image(4, p->a, 3, p->b, 3, p->lengths, 3, p->mu, 4, p->nu, 4, false, SIZE_MAX, NULL, 0, lend_buffer(&w, 5), 80,
+                               &w.length);
+  expect_written("no parents", &w, MOVER_OK, image, 80);
+  w.number = mover_write_image(4, p->a, 3, p->b, 3, p->lengths, 3, p->mu, 4, p->nu, 4, false, 256, parents, 3, lend_buffer(&w, 6), 80,
+                               &w.length);
+  expect_written("parents that no image holds", &w, MOVER_OK, image, 80);
+}
+
+/* A patch of any numbers that an image holds, often of few vertices and edges. */
+static void draw_problem(problem *p) {
+  size_t i;
+  memset(p, 0, sizeof *p);
+  p->name = "any numbers";
+  p->n = p->mu_len = p->nu_len = p->parents_len = draw_below(4) == 0 ? 64 - draw_below(2) : 1 + draw_below(12);
+  p->a_len = p->b_len = p->lengths_len = draw_below(8) == 0 ? 512 - draw_below(2) : draw_below(24);
+  p->root = draw_below(256);
+  for (i = 0; i < E; i++) {
+    p->a[i] = (uint32_t)draw_below(256);
+    p->b[i] = (uint32_t)draw_below(256);
+    p->lengths[i] = (uint32_t)draw_below(65536);
+  }
+  for (i = 0; i < V; i++) {
+    p->mu[i] = draw() >> 32;
+    p->nu[i] = draw() >> 32;
+    p->parents[i] = (uint32_t)draw_below(256);
+  }
+}
+
+/* Any numbers, half of the times with one or two of them changed as in a variant, into buffers that are a little too short or not. */
+static void check_drawn_images(void) {
+  static problem p;
+  unsigned numbers[14] = {0}, round;
+  for (round = 0; round < 3000; round++) {
+    bool tree = draw_below(2) == 0;
+    size_t count, length;
+    draw_problem(&p);
+    length = MOVER_IMAGE_SIZE(p.n, p.a_len) + (tree ? p.n + 1 : 0);
+    for (count = draw_below(2) * (1 + draw_below(2)); count > 0; count--) {
+      const struct variant *c = &variants[draw_below(VARIANTS)];
+      set_field(&p, c->where, draw_below(p.n < V ? p.n + 1 : 1), c->value);
+    }
+    numbers[check_write(p.name, &p, tree, draw_below(8), length - 2 + draw_below(20))]++;
+  }
+  expect(numbers[0] > 400 && numbers[1] > 100 && numbers[2] > 400 && numbers[13] > 100, "every number", "of the writer", numbers[13]);
+}
+
+/* A right answer, spoiled on purpose: each bit of the image and of the bytes round it, the length, the number. */
+static void check_spoiled(void) {
+  static outcome w;
+  uint8_t *bytes = (uint8_t *)w.block.block;
+  size_t i;
+  w.number = write_image(&problems[CASE_A], true, lend_buffer(&w, 3), ROOM - 3, &w.length);
+  expect(wrong_in(&w, MOVER_OK, image_a, 85) == NULL, "a right answer", "case A", 0);
+  for (i = 0; i < 8 * (GUARD + 3 + 85 + GUARD); i++) {
+    bytes[i / 8] ^= (uint8_t)(1 << i % 8);
+    expect(wrong_in(&w, MOVER_OK, image_a, 85) != NULL, "a spoiled bit", "at", (unsigned)i);
+    bytes[i / 8] ^= (uint8_t)(1 << i % 8);
+  }
+  expect(wrong_in(&w, 13, image_a, 0) != NULL && wrong_in(&w, MOVER_OK, image_a, 84) != NULL, "another number or length", "case A", 0);
+  lend_buffer(&w, 3);
+  w.number = 13;
+  w.length = 0;
+  expect(wrong_in(&w, 13, image_a, 0) == NULL && wrong_in(&w, 2, image_a, 0) != NULL, "a right refusal", "13 and not", 2);
+  w.length = 85;
+  expect(wrong_in(&w, 13, image_a, 0) != NULL, "a refusal with a length", "of", 85);
+}
+
 static void check_writer(void) {
-  lent image;
-  uint8_t *at = (uint8_t *)lend(&image);
-  problem p = problems[CASE_A];
-  size_t with = MOVER_IMAGE_SIZE(4, 3) + 5, without = MOVER_IMAGE_SIZE(4, 3);
-  expect(image_of(&p, 1, at, with) == with && kept_past(&image, with), "with a tree", "mover_image_write", 0);
-  lend(&image);
-  expect(image_of(&p, 0, at, without) == without && kept_past(&image, without), "without a tree", "mover_image_write", 0);
-  lend(&image);
-  expect(image_of(&p, 1, at, with - 1) == 0 && image_of(&p, 0, at, without - 1) == 0, "a short buffer", "mover_image_write", 0);
-  p.n = 256;
-  expect(image_of(&p, 0, at, ROOM) == 0, "n 256", "mover_image_write", 0);
-  p = problems[CASE_A];
-  p.lengths[2] = 65536;
-  expect(image_of(&p, 0, at, ROOM) == 0, "length 65536", "mover_image_write", 0);
-  p = problems[CASE_A];
-  p.b[2] = 256;
-  expect(image_of(&p, 0, at, ROOM) == 0, "end 256", "mover_image_write", 0);
-  p = problems[CASE_A];
-  p.nu[3] = (uint64_t)1 << 32;
-  expect(image_of(&p, 0, at, ROOM) == 0, "amount 2^32", "mover_image_write", 0);
-  p = problems[CASE_A];
-  p.parents[3] = 256;
-  expect(image_of(&p, 1, at, ROOM) == 0, "parent 256", "mover_image_write", 0);
-  p.parents[3] = 3;
-  p.root = 256;
-  expect(image_of(&p, 1, at, ROOM) == 0, "root 256", "mover_image_write", 0);
-  expect(kept_past(&image, 0), "nothing written", "mover_image_write", 0);
+  check_literals();
+  check_written_problems();
+  check_variants();
+  check_two_variants();
+  check_no_tree();
+  check_drawn_images();
+  check_spoiled();
+}
+
+/* ---- the rewriter */
+
+/* The number that an image is refused by for its form. */
+static uint32_t image_number(const uint8_t *image, size_t length) {
+  size_t sizes[4], end = 36, n, m, k;
+  if (length < 36 || length > 65536) return 11;
+  for (k = 0; k < 4; k++) {
+    size_t offset = mover_u32(image + 4 + 8 * k);
+    sizes[k] = mover_u32(image + 8 + 8 * k);
+    if (offset < end || offset + sizes[k] > length) return 12;
+    end = offset + sizes[k];
+  }
+  n = image[0];
+  m = image[2] + 256 * (size_t)image[3];
+  if (image[1] != 0 || sizes[0] != 4 * m || sizes[1] != 4 * n || sizes[2] != 4 * n) return 13;
+  if (sizes[3] != 0 && sizes[3] != n + 1) return 13;
+  if (n == 0 || n > 64) return 1;
+  return m > 512 ? 2 : 0;
+}
+
+/* An image's sections moved together, byte by byte; returns the length. */
+static size_t close_gaps(const uint8_t *image, uint8_t *to) {
+  size_t at = 36, k;
+  memcpy(to, image, 4);
+  for (k = 0; k < 4; k++) {
+    size_t size = mover_u32(image + 8 + 8 * k);
+    put(to + 4 + 8 * k, at, 4);
+    put(to + 8 + 8 * k, size, 4);
+    memcpy(to + at, image + mover_u32(image + 4 + 8 * k), size);
+    at += size;
+  }
+  return at;
+}
+
+/* Rewrites an image into a buffer of so many bytes, where `result` is to stand, and reads and rewrites the result; returns the number that
+ * is wanted. */
+static uint32_t check_rewrite(const char *name, const uint8_t *image, size_t length, const uint8_t *result, size_t result_length,
+                              size_t shift, size_t room) {
+  static outcome w, again;
+  static uint8_t given[BUILT];
+  static reading one, other;
+  uint32_t form = image_number(image, length), wanted = form == MOVER_OK && room < result_length ? 2 : form;
+  uint8_t *buffer = lend_buffer(&w, shift);
+  memcpy(given, image, length);
+  w.number = mover_rewrite(image, length, buffer, room, &w.length);
+  expect(!memcmp(given, image, length), "the image as it was", name, w.number);
+  read_all(&one, image, length);
+  expect(one.number == form, "the reader's number", name, one.number);
+  if (!expect_written(name, &w, wanted, result, wanted == MOVER_OK ? result_length : 0) || wanted != MOVER_OK) return wanted;
+  expect(w.length <= length, "no longer than the image", name, (unsigned)w.length);
+  read_all(&other, buffer, w.length);
+  expect(!memcmp(&one, &other, sizeof one), "the same reading", name, other.number);
+  again.number = mover_rewrite(buffer, w.length, lend_buffer(&again, 7 - shift), w.length, &again.length);
+  expect_written("rewritten again", &again, MOVER_OK, result, result_length);
+  return wanted;
+}
+
+/* A problem's image in a layout, rewritten into a buffer of so many bytes more than the built image without gaps has, or fewer. */
+static uint32_t check_laid_out(const problem *p, bool tree, const layout *l, size_t shift, int spare) {
+  static uint8_t block[8 + BUILT], result[BUILT];
+  size_t length = build_image(p, tree, l, block + shift), result_length = build_image(p, tree, &back_to_back, result);
+  return check_rewrite(p->name, block + shift, length, result, result_length, 7 - shift, result_length + (size_t)spare);
+}
+
+/* So many bytes before a section, behind the last one if `where` is 4, or spread over all these places if it is 5. */
+static layout gap_at(size_t where, size_t bytes, uint8_t fill) {
+  layout l = back_to_back;
+  size_t k;
+  l.fill = fill;
+  if (where < 4) l.before[where] = bytes;
+  if (where == 4) l.behind = bytes;
+  if (where < 5) return l;
+  for (k = 0; k < 4; k++) l.before[k] = bytes / 5;
+  l.behind = bytes - 4 * (bytes / 5);
+  return l;
+}
+
+/* Every problem that an image holds, and the greatest numbers, with gaps in each place and of two contents. */
+static void check_gaps(void) {
+  static const size_t gaps[6] = {0, 1, 2, 5, 36, 1000};
+  static problem greatest;
+  size_t k, i, where;
+  fill_greatest(&greatest);
+  for (k = 0; k < 2 * (PROBLEMS + 1); k++) {
+    const problem *p = k / 2 < PROBLEMS ? &problems[k / 2] : &greatest;
+    bool tree = k % 2 == 1;
+    if (writer_number(p, tree, ROOM) != MOVER_OK) continue;
+    for (i = 0; i < 6; i++)
+      for (where = 0; where < 6; where++) {
+        layout l = gap_at(where, gaps[i], 0), other = gap_at(where, gaps[i], 201);
+        expect(check_laid_out(p, tree, &l, where, 0) == 0, p->name, "a gap of", (unsigned)gaps[i]);
+        expect(check_laid_out(p, tree, &other, 7 - where, 9) == 0, p->name, "a gap of", (unsigned)gaps[i]);
+        expect(check_laid_out(p, tree, &l, where, -1) == 2, p->name, "one byte too few", (unsigned)gaps[i]);
+      }
+  }
+}
+
+/* Case A's image, filled up to so many bytes. */
+static void check_image_length(size_t length, size_t where) {
+  layout without = gap_at(where, length - 80, (uint8_t)length), with = gap_at(where, length - 85, (uint8_t)length);
+  uint32_t wanted = length > 65536 ? 11 : 0;
+  expect(check_laid_out(&problems[CASE_A], false, &without, length % 8, 0) == wanted, "without a tree", "bytes", (unsigned)length);
+  expect(check_laid_out(&problems[CASE_A], true, &with, length % 8, 0) == wanted, "with a tree", "bytes", (unsigned)length);
+}
+
+/* From the shortest image to the longest by steps, and one byte longer. */
+static void check_image_lengths(void) {
+  size_t length, where = 0;
+  for (length = 85; length < 65535; length += 97) check_image_length(length, where++ % 6);
+  for (length = 65535; length <= 65537; length++)
+    for (where = 0; where < 6; where++) check_image_length(length, where);
+}
+
+/* Case A's image with so many bytes cut off and two bytes changed, and its number; byte 0 is 4 as it is. */
+static const struct damage {
+  const char *name;
+  uint32_t number;
+  size_t cut, at;
+  uint8_t byte;
+  size_t other_at;
+  uint8_t other_byte;
+} damages[] = {
+    {"as it is", 0, 0, 0, 4, 0, 4},
+    {"35 bytes", 11, 50, 0, 4, 0, 4},
+    {"36 bytes", 12, 49, 0, 4, 0, 4},
+    {"the last byte cut off", 12, 1, 0, 4, 0, 4},
+    {"edges from 35", 12, 0, 4, 35, 0, 4},
+    {"edges from 2^24 + 36", 12, 0, 7, 1, 0, 4},
+    {"mu from inside the edges", 12, 0, 12, 47, 0, 4},
+    {"nu from inside mu", 12, 0, 20, 63, 0, 4},
+    {"a tree from inside nu", 12, 0, 28, 79, 0, 4},
+    {"a tree up to past the end", 12, 0, 28, 81, 0, 4},
+    {"edges up to inside mu", 12, 0, 8, 13, 0, 4},
+    {"mu up to inside nu", 12, 0, 16, 17, 0, 4},
+    {"nu up to inside the tree", 12, 0, 24, 17, 0, 4},
+    {"a tree of 6 bytes", 12, 0, 32, 6, 0, 4},
+    {"a tree of 2^24 + 5 bytes", 12, 0, 35, 1, 0, 4},
+    {"an empty tree from inside nu", 12, 0, 28, 79, 32, 0},
+    {"an empty tree from past the end", 12, 0, 28, 86, 32, 0},
+    {"an empty tree from the end", 0, 0, 28, 85, 32, 0},
+    {"an empty tree", 0, 0, 32, 0, 0, 4},
+    {"byte 1", 13, 0, 1, 1, 0, 4},
+    {"n 0", 13, 0, 0, 0, 0, 0},
+    {"n 3", 13, 0, 0, 3, 0, 3},
+    {"n 65", 13, 0, 0, 65, 0, 65},
+    {"m 2", 13, 0, 2, 2, 0, 4},
+    {"m 256 + 3", 13, 0, 3, 1, 0, 4},
+    {"edges of 11 bytes", 13, 0, 8, 11, 0, 4},
+    {"edges of 8 bytes", 13, 0, 8, 8, 0, 4},
+    {"no edges", 13, 0, 8, 0, 0, 4},
+    {"mu of 15 bytes", 13, 0, 16, 15, 0, 4},
+    {"no mu", 13, 0, 16, 0, 0, 4},
+    {"nu of 12 bytes", 13, 0, 24, 12, 0, 4},
+    {"no nu", 13, 0, 24, 0, 0, 4},
+    {"a tree of 4 bytes", 13, 0, 32, 4, 0, 4},
+    {"a tree of 1 byte", 13, 0, 32, 1, 0, 4},
+    {"11 and 12", 11, 50, 4, 35, 0, 4},
+    {"11 and 13", 11, 50, 1, 1, 0, 4},
+    {"12 and 13, byte 1", 12, 0, 4, 35, 1, 1},
+    {"12 and 13, a tree", 12, 0, 32, 6, 8, 11},
+    {"12 and 13, n 0", 12, 0, 0, 0, 28, 79},
+};
+
+/* Each damage, with buffers of any length: that of the buffer is looked at last. */
+static void check_damages(void) {
+  static uint8_t result[BUILT];
+  size_t k, i;
+  for (k = 0; k < sizeof damages / sizeof damages[0]; k++) {
+    const struct damage *d = &damages[k];
+    size_t length = sizeof image_a - d->cut, result_length = 0;
+    uint8_t image[sizeof image_a];
+    memcpy(image, image_a, sizeof image);
+    image[d->at] = d->byte;
+    image[d->other_at] = d->other_byte;
+    if (d->number == 0) result_length = close_gaps(image, result);
+    for (i = 0; i < 8; i++) {
+      expect(check_rewrite(d->name, image, length, result, result_length, i, ROOM - i) == d->number, d->name, "mover_rewrite", d->number);
+      expect(check_rewrite(d->name, image, length, result, result_length, i, 0) == (d->number == 0 ? 2 : d->number), d->name, "no buffer",
+             d->number);
+    }
+  }
+}
+
+/* No vertex, 65, 513 edges and both; faults that come first, and buffers that are too short, which come last. */
+static void check_refused_images(void) {
+  static const uint32_t numbers[5] = {1, 1, 2, 1, 1};
+  static const int more[3] = {1, 4, 256};
+  static problem given[5];
+  static uint8_t image[BUILT];
+  size_t k, i, length;
+  int spare;
+  given[0] = problems[NO_VERTEX];
+  given[1] = problems[MANY_VERTICES];
+  given[2] = given[3] = given[4] = problems[MANY_EDGES];
+  given[3].n = 0;
+  given[4].n = 65;
+  for (k = 0; k < 5; k++) {
+    length = build_image(&given[k], true, &back_to_back, image);
+    expect(check_rewrite(given[k].name, image, length - 1, image, 0, 0, ROOM) == 12, given[k].name, "the last byte cut off", (unsigned)k);
+    for (spare = -1; spare < 2; spare++) {
+      layout l = gap_at(5, 12, 3), longest = gap_at(5, 65537 - length, 3);
+      expect(check_laid_out(&given[k], false, &l, k, spare) == numbers[k], given[k].name, "without a tree", (unsigned)k);
+      expect(check_laid_out(&given[k], true, &l, k, spare) == numbers[k], given[k].name, "with a tree", (unsigned)k);
+      expect(check_laid_out(&given[k], true, &longest, k, spare) == 11, given[k].name, "65537 bytes", (unsigned)k);
+      for (i = 0; i < 12; i++) {
+        l.more[i / 3] = more[i % 3];
+        expect(check_laid_out(&given[k], true, &l, k, spare) == 13, given[k].name, "a section too long", (unsigned)i);
+        l.more[i / 3] = 0;
+      }
+    }
+  }
+}
+
+/* Do two patches get the same bytes: written, and rewritten from images with other gaps? */
+static void check_pair(const char *name, const problem *p, bool p_tree, const problem *q, bool q_tree, int same) {
+  static uint8_t image[BUILT], one[MOVER_IMAGE_WRITTEN_MAX], other[MOVER_IMAGE_WRITTEN_MAX];
+  const layout before = gap_at(0, 9, 1), spread = gap_at(5, 23, 2);
+  size_t one_length, other_length;
+  uint32_t number = write_image(p, p_tree, one, sizeof one, &one_length);
+  expect(number == 0, name, "mover_write_image", number);
+  number = write_image(q, q_tree, other, sizeof other, &other_length);
+  expect(number == 0, name, "mover_write_image", number);
+  expect((one_length == other_length && !memcmp(one, other, one_length)) == same, name, "written", (unsigned)one_length);
+  number = mover_rewrite(image, build_image(p, p_tree, &before, image), one, sizeof one, &one_length);
+  expect(number == 0, name, "mover_rewrite", number);
+  number = mover_rewrite(image, build_image(q, q_tree, &spread, image), other, sizeof other, &other_length);
+  expect(number == 0, name, "mover_rewrite", number);
+  expect((one_length == other_length && !memcmp(one, other, one_length)) == same, name, "rewritten", (unsigned)one_length);
+}
+
+/* Patches that differ in one bit of one number, in n, in m, in having a tree: other bytes, but for root and parents without a tree. */
+static void check_pairs(void) {
+  static const struct kind {
+    const char *name;
+    field where;
+    size_t places, bits;
+  } kinds[7] = {
+      {"root", AT_ROOT, 1, 8},        {"an end a", AT_A, 3, 8},       {"an end b", AT_B, 3, 8},       {"a length", AT_LENGTHS, 3, 16},
+      {"an amount mu", AT_MU, 4, 32}, {"an amount nu", AT_NU, 4, 32}, {"a parent", AT_PARENTS, 4, 8},
+  };
+  static problem p, q;
+  size_t k, i, bit;
+  for (k = 0; k < 7; k++)
+    for (i = 0; i < kinds[k].places; i++)
+      for (bit = 0; bit < kinds[k].bits; bit++) {
+        int of_tree = kinds[k].where == AT_ROOT || kinds[k].where == AT_PARENTS;
+        p = q = problems[CASE_A];
+        set_field(&p, kinds[k].where, i, 0);
+        set_field(&q, kinds[k].where, i, (uint64_t)1 << bit);
+        check_pair(kinds[k].name, &p, true, &q, true, 0);
+        check_pair(kinds[k].name, &p, false, &q, false, of_tree);
+        check_pair("the same", &q, true, &q, true, 1);
+      }
+  p = q = problems[CASE_A];
+  check_pair("a tree or none", &p, true, &q, false, 0);
+  q.n = q.mu_len = q.nu_len = q.parents_len = 5;
+  check_pair("n", &p, true, &q, true, 0);
+  check_pair("n", &p, false, &q, false, 0);
+  q = p;
+  q.a_len = q.b_len = q.lengths_len = 4;
+  check_pair("m", &p, true, &q, true, 0);
+  check_pair("m", &p, false, &q, false, 0);
+}
+
+/* Any numbers with any gap, mostly damaged: n or m out of bounds, bytes cut off, bits of the header changed, a section too long. */
+static void check_drawn_rewriting(void) {
+  static problem p;
+  static uint8_t image[BUILT], result[BUILT];
+  unsigned numbers[14] = {0}, round;
+  for (round = 0; round < 6000; round++) {
+    layout l = gap_at(draw_below(6), draw_below(2) * draw_below(100), (uint8_t)draw());
+    size_t damage = draw_below(6), length, result_length = 0, i;
+    draw_problem(&p);
+    if (damage == 1) p.n = draw_below(2) * 65;
+    if (damage == 2) p.a_len = 512 + draw_below(3);
+    if (damage == 3) l.more[draw_below(4)] = 1 + (int)draw_below(4);
+    length = build_image(&p, draw_below(2) == 0, &l, image);
+    if (damage == 4) length = draw_below(3) == 0 ? draw_below(44) : length - draw_below(10);
+    for (i = 0; damage == 5 && i < 2; i++) image[draw_below(36)] ^= (uint8_t)(1 << draw_below(8));
+    if (image_number(image, length) == 0) result_length = close_gaps(image, result);
+    numbers[check_rewrite(p.name, image, length, result, result_length, draw_below(8), draw_below(8) ? 2661 : draw_below(400))]++;
+  }
+  expect(numbers[0] > 1000 && numbers[1] > 100 && numbers[2] > 100, "every number", "of the rewriter", numbers[1]);
+  expect(numbers[11] > 100 && numbers[12] > 100 && numbers[13] > 100, "every number", "of the rewriter", numbers[11]);
+}
+
+static void check_rewriter(void) {
+  check_gaps();
+  check_image_lengths();
+  check_damages();
+  check_refused_images();
+  check_pairs();
+  check_drawn_rewriting();
 }
 
 /* ---- trees */
@@ -429,19 +1210,6 @@ static void check_trees(void) {
 }
 
 /* ---- climbs */
-
-/* A generator of numbers (SplitMix64), from the same seed in every run. */
-static uint64_t draw(void) {
-  static uint64_t state = 204;
-  uint64_t z = state += 0x9e3779b97f4a7c15u;
-  z = (z ^ z >> 30) * 0xbf58476d1ce4e5b9u;
-  z = (z ^ z >> 27) * 0x94d049bb133111ebu;
-  return z ^ z >> 31;
-}
-
-static size_t draw_below(size_t bound) {
-  return (size_t)(draw() % bound);
-}
 
 /* The numbers below n in any order. */
 static void draw_order(size_t n, uint32_t *order) {
@@ -800,10 +1568,16 @@ typedef struct large {
   mover_edge edges[512];
   int32_t imbalance[64], potential[64];
   uint8_t image[MOVER_IMAGE_SIZE(64, 512)], small[MOVER_IMAGE_SIZE(1, 0)], record[MOVER_RECORD_MAX];
-  size_t length, small_length;
+  uint8_t with_tree[MOVER_IMAGE_WRITTEN_MAX], rewritten[MOVER_IMAGE_WRITTEN_MAX];
+  size_t length, small_length, tree_length;
 } large;
 
 static large patch;
+
+static uint32_t call_write_image(void) {
+  return mover_write_image(64, patch.a, 512, patch.b, 512, patch.lengths, 512, patch.mu, 64, patch.nu, 64, true, 0, patch.parents, 64,
+                           patch.with_tree, sizeof patch.with_tree, &patch.tree_length);
+}
 
 /* A path through all vertices, with its parents, and further edges up to 512. */
 static void fill_large(void) {
@@ -821,8 +1595,14 @@ static void fill_large(void) {
     }
   }
   expect(m == 512, "the largest patch", "edges", (unsigned)m);
-  patch.length = mover_image_write(64, patch.edges, 512, patch.mu, patch.nu, 0, NULL, patch.image, sizeof patch.image);
-  patch.small_length = mover_image_write(1, patch.edges, 0, patch.mu, patch.mu, 0, NULL, patch.small, sizeof patch.small);
+  expect(mover_write_image(64, patch.a, 512, patch.b, 512, patch.lengths, 512, patch.mu, 64, patch.nu, 64, false, 0, NULL, 0, patch.image,
+                           sizeof patch.image, &patch.length) == 0,
+         "the image", "of the largest patch", (unsigned)patch.length);
+  expect(mover_write_image(1, NULL, 0, NULL, 0, NULL, 0, patch.mu, 1, patch.mu, 1, false, 0, NULL, 0, patch.small, sizeof patch.small,
+                           &patch.small_length) == 0,
+         "the image", "of one vertex", (unsigned)patch.small_length);
+  expect(call_write_image() == 0 && patch.tree_length == MOVER_IMAGE_WRITTEN_MAX, "the image", "of the largest patch and a tree",
+         (unsigned)patch.tree_length);
 }
 
 static uint32_t call_distances(void) {
@@ -865,6 +1645,11 @@ static uint32_t call_read(void) {
   return mover_read(patch.image, patch.length, a, 512, b, 512, lengths, 512, mu, 64, nu, 64, parents, 64, &n, &m, &root, &tree);
 }
 
+static uint32_t call_rewrite(void) {
+  size_t length;
+  return mover_rewrite(patch.with_tree, patch.tree_length, patch.rewritten, sizeof patch.rewritten, &length);
+}
+
 static uint32_t call_to_amounts(void) {
   static float weights[LONGEST];
   static uint64_t amounts[LONGEST];
@@ -903,6 +1688,8 @@ static const struct use {
     {"mover_solve", call_solve, MOVER_STACK_SOLVE},
     {"mover_mark_ancestors", call_mark_ancestors, MOVER_STACK_MARK_ANCESTORS},
     {"mover_read", call_read, MOVER_STACK_READ},
+    {"mover_write_image", call_write_image, MOVER_STACK_WRITE_IMAGE},
+    {"mover_rewrite", call_rewrite, MOVER_STACK_REWRITE},
     {"mover_to_amounts", call_to_amounts, MOVER_STACK_TO_AMOUNTS},
     {"mover_to_weights", call_to_weights, MOVER_STACK_TO_WEIGHTS},
     {"mover_tree_...", call_tree, MOVER_STACK_TREE},
@@ -989,8 +1776,8 @@ int main(void) {
   } groups[] = {
       {"accepted and refused problems", check_problems}, {"figures and long tables", check_figures}, {"empty tables", check_empty},
       {"the reader", check_reader},                      {"the entry", check_run},                   {"the writer of images", check_writer},
-      {"trees", check_trees},                            {"climbs", check_climbs},                   {"weights", check_weights},
-      {"texts", check_texts},                            {"stack", check_stack},
+      {"the rewriter", check_rewriter},                  {"trees", check_trees},                     {"climbs", check_climbs},
+      {"weights", check_weights},                        {"texts", check_texts},                     {"stack", check_stack},
   };
   unsigned passed = 0, failed = 0;
   size_t k;

@@ -1,9 +1,10 @@
 /* Every call on one patch: distances, the best answer, a given tree and whether it is best, the tree's methods, climbs up it, the same
- * by an image, a painting as weights, and a refusal. */
+ * by an image, which is written, rewritten, read and run, a painting as weights, and a refusal. */
 #include "mover.h"
 
 #include <inttypes.h>
 #include <stdio.h>
+#include <string.h>
 
 /* Two rings of three vertices round a limb, joined along its length. */
 enum { N = 6, M = 9 };
@@ -122,14 +123,38 @@ static void climbs(void) {
   printf("\n");
 }
 
-/* Writes an image with the chain, reads it back and runs it. */
+/* The image again, its sections moved up by a gap and followed by a tail: rewritten, it has the bytes that it had. */
+static void rewrite(const uint8_t *image, size_t length) {
+  enum { GAP = 5, TAIL = 3 };
+  uint8_t moved[MOVER_IMAGE_WRITTEN_MAX + GAP + TAIL], again[MOVER_IMAGE_WRITTEN_MAX];
+  size_t offset, again_length;
+  uint32_t number;
+  memset(moved, 0xff, sizeof moved);
+  memcpy(moved, image, MOVER_IMAGE_HEADER);
+  memcpy(moved + MOVER_IMAGE_HEADER + GAP, image + MOVER_IMAGE_HEADER, length - MOVER_IMAGE_HEADER);
+  for (offset = 4; offset < MOVER_IMAGE_HEADER; offset += 8) moved[offset] += GAP; /* offsets here fit one byte */
+  number = mover_rewrite(moved, length + GAP + TAIL, again, sizeof again, &again_length);
+  if (number != MOVER_OK) {
+    refused(number);
+    return;
+  }
+  printf("  with gaps %zu bytes, rewritten %zu: ", length + GAP + TAIL, again_length);
+  printf("%s\n", again_length == length && !memcmp(again, image, length) ? "the same image" : "another image");
+}
+
+/* Writes an image with the chain, rewrites it, reads it back and runs it. */
 static void by_image(void) {
   uint8_t image[MOVER_IMAGE_SIZE(N, M) + N + 1], record[MOVER_RECORD_SIZE(N)];
   uint32_t read_a[M], read_b[M], read_lengths[M], parents[N], tree, number;
   uint64_t mu[N], nu[N];
-  size_t n, m, root, x;
-  size_t length = mover_image_write(N, edges, M, before, after, 0, chain, image, sizeof image);
+  size_t length, n, m, root, x;
+  number = mover_write_image(N, a, M, b, M, lengths, M, before, N, after, N, true, 0, chain, N, image, sizeof image, &length);
+  if (number != MOVER_OK) {
+    refused(number);
+    return;
+  }
   printf("  %zu bytes\n", length);
+  rewrite(image, length);
   number = mover_read(image, length, read_a, M, read_b, M, read_lengths, M, mu, N, nu, N, parents, N, &n, &m, &root, &tree);
   if (number != MOVER_OK) {
     refused(number);

@@ -7,6 +7,8 @@
  * distance. The library finds a cheapest plan, or evaluates the plan of a spanning tree that is given.
  * Amounts are whole numbers of grains. Weights as paint tools hold them, floats from 0 to 1, become amounts
  * and amounts weights by calls of their own.
+ * An image holds a graph, two measures and, if there is one, a tree in bytes. Calls write, read and rewrite
+ * images; what is equal is written as equal bytes, for hosts that compare files.
  *
  * Link one of two static archives, not both, for x86-64 Linux and its System V calling convention:
  *
@@ -18,10 +20,10 @@
  *
  * What holds for every call
  *
- * - No input is out of bounds: what is no graph, no tree or no image is refused by a number.
+ * - No input is out of bounds: what fails one of a call's checks is refused by a number.
  * - A call returns MOVER_OK and fills its answer tables, or returns the number of the first check that
  *   fails, leaves every table as it was, and writes 0 through each pointer to a single result (cost,
- *   moves, optimal, n, m, root, tree).
+ *   moves, optimal, n, m, root, tree, length).
  * - A table is a pointer and then a length, which counts elements. The pointer must be valid for that
  *   many; with length 0 it may be NULL. A byte buffer may stand at any address, a table of numbers must
  *   be aligned as its type asks. A pointer to a single result is not NULL.
@@ -34,10 +36,13 @@
 #ifndef MOVER_H
 #define MOVER_H
 
+#ifndef __cplusplus
+#include <stdbool.h>
+#endif
 #include <stddef.h>
 #include <stdint.h>
 
-#define MOVER_VERSION 200 /* 0.2.0: major * 10000 + minor * 100 + patch */
+#define MOVER_VERSION 300 /* 0.3.0: major * 10000 + minor * 100 + patch */
 
 #define MOVER_MAX_VERTICES 64
 #define MOVER_MAX_EDGES 512
@@ -55,6 +60,8 @@
 #define MOVER_STACK_SOLVE 16384
 #define MOVER_STACK_MARK_ANCESTORS 8192
 #define MOVER_STACK_READ 8192
+#define MOVER_STACK_WRITE_IMAGE 8192
+#define MOVER_STACK_REWRITE 16384
 #define MOVER_STACK_TO_AMOUNTS 8192
 #define MOVER_STACK_TO_WEIGHTS 8192
 #define MOVER_STACK_TREE 8192 /* each of mover_tree_new, _depth, _parent, _subtree */
@@ -65,14 +72,14 @@ extern "C" {
 #endif
 
 /* The numbers that calls return. Checks run in the order 11, 12, 13 and then 1 to 10; each call says where
- * it stops. The calls on weights have 2, 15 and 16, in this order. The first check that fails gives the
- * number. No call returns 14. */
+ * it stops. mover_write_image has 1, 2 and 13, in this order, and the calls on weights 2, 15 and 16. The
+ * first check that fails gives the number. No call returns 14. */
 enum {
   MOVER_OK = 0,
   MOVER_REFUSED_VERTEX_COUNT = 1,    /* n is 0 or above 64 */
   MOVER_REFUSED_TABLE_SIZE = 2,      /* there are more than 512 edges, the edge lists are unequal in length,
                                         mu, nu or given parents are not n long, or an answer table or the
-                                        record buffer is too short */
+                                        buffer for a record or an image is too short */
   MOVER_REFUSED_EDGE_ORDER = 3,      /* an edge has b >= n or a >= b, or is not after its forerunner */
   MOVER_REFUSED_EDGE_LENGTH = 4,     /* a length is above 65,535: no image gives this */
   MOVER_REFUSED_NOT_CONNECTED = 5,   /* some vertex cannot be reached from vertex 0 */
@@ -85,7 +92,9 @@ enum {
   MOVER_REFUSED_IMAGE_SIZE = 11,     /* the image has under 36 or over 65,536 bytes */
   MOVER_REFUSED_SECTION_PLACE = 12,  /* a section starts before byte 36 or before its forerunner's end, or
                                         ends past the image */
-  MOVER_REFUSED_SECTION_LENGTH = 13, /* byte 1 is not 0, or a section's length does not fit n and m */
+  MOVER_REFUSED_SECTION_LENGTH = 13, /* byte 1 is not 0, or a section's length does not fit n and m; in
+                                        mover_write_image: an end, the root or a parent is above 255, a
+                                        length above 65,535 or an amount above 4,294,967,295 */
   MOVER_REFUSED_WEIGHT_RANGE = 15,   /* a weight is below 0, above 1 or no number, or an amount that is to be a
                                         weight is above 16,777,216 */
   MOVER_REFUSED_WEIGHT_GRAINS = 16   /* a weight is no whole number of grains */
@@ -107,7 +116,7 @@ static inline const char *mover_refusal_text(uint32_t number) {
       "a chain of parents misses the root",
       "the image has under 36 or over 65536 bytes",
       "a section of the image is out of order or out of bounds",
-      "byte 1 of the image is not 0, or a section has the wrong length",
+      "byte 1 of the image is not 0, a section has the wrong length, or a number is too large for an image",
       "no such number",
       "a weight is below 0, above 1 or no number, or an amount is above 16777216",
       "a weight is no whole number of grains",
@@ -202,6 +211,36 @@ uint32_t mover_read(const uint8_t *image, size_t image_len, uint32_t *a, size_t 
                     uint64_t *nu, size_t nu_len, uint32_t *parents, size_t parents_len, size_t *n, size_t *m,
                     size_t *root, uint32_t *tree);
 
+/* Writes an image, described below, with its sections back to back from byte 36 on. mu and nu are n long.
+ *
+ *   tree           whether the image has a tree
+ *   root, parents  the tree, with n parents. Without a tree neither these nor parents_len are looked at: 0,
+ *                  NULL and 0 will do
+ *   buffer         at least as long as the image; MOVER_IMAGE_WRITTEN_MAX bytes are always enough
+ *   length         the image's length: MOVER_IMAGE_SIZE(n, m), and n + 1 more with a tree
+ *
+ * Two images are equal byte for byte exactly if n, the edges, mu, nu and `tree` are, and with a tree root
+ * and parents.
+ * Refuses by 1, then by 2, then by 13 if an end, the root or a parent is above 255, a length above 65,535 or
+ * an amount above 4,294,967,295. Nothing else is examined: edges out of order, unequal totals or parents
+ * that make no tree are written as they are, and are for the calls that are given the image. */
+uint32_t mover_write_image(size_t n, const uint32_t *a, size_t a_len, const uint32_t *b, size_t b_len,
+                           const uint32_t *lengths, size_t lengths_len, const uint64_t *mu, size_t mu_len,
+                           const uint64_t *nu, size_t nu_len, bool tree, size_t root, const uint32_t *parents,
+                           size_t parents_len, uint8_t *buffer, size_t buffer_len, size_t *length);
+
+/* Writes an image anew: what `image` holds goes into `buffer` as mover_write_image writes it. Gaps and their
+ * contents are gone, so that images which hold the same become equal byte for byte.
+ *
+ *   buffer         at least as long as the result; image_len bytes, or MOVER_IMAGE_WRITTEN_MAX, are always
+ *                  enough
+ *   length         the result's length, at most image_len
+ *
+ * Reading the result gives what reading `image` gives; rewriting the result changes no byte. Refuses by 11,
+ * 12, 13, 1 and 2. */
+uint32_t mover_rewrite(const uint8_t *image, size_t image_len, uint8_t *buffer, size_t buffer_len,
+                       size_t *length);
+
 /* ---- Weights (libhost_calls.a)
  *
  * A weight is a float from 0 to 1, of 32 bits as IEEE 754 has them; a weight of 1 is 16,777,216 grains. Since a
@@ -259,68 +298,16 @@ uint32_t mover_run(const uint8_t *image, size_t image_len, uint8_t *record, size
  *                  nu      n times four bytes
  *                  tree    empty, or the root and n parents, one byte each; the root is its own parent
  *
- * The sections come in this order from byte 36 on. Gaps between them and after them are ignored.
+ * The sections come in this order from byte 36 on. Gaps before, between and after them are ignored.
+ * mover_write_image and mover_rewrite leave none: the edges start at byte 36 and each further section, an
+ * empty tree too, where the one before it ends.
  */
 #define MOVER_IMAGE_HEADER 36
-#define MOVER_IMAGE_MAX 65536
+#define MOVER_IMAGE_MAX 65536 /* the most bytes that an image may have, gaps included */
 
 /* Bytes of an image with its sections back to back; with a tree, add n + 1. */
 #define MOVER_IMAGE_SIZE(n, m) (MOVER_IMAGE_HEADER + 4 * (size_t)(m) + 8 * (size_t)(n))
-
-static inline void mover_put(uint8_t *at, uint64_t value, size_t bytes) {
-  size_t i;
-  for (i = 0; i < bytes; i++) at[i] = (uint8_t)(value >> 8 * i);
-}
-
-/* Whether each number fits the bytes that an image has for it. */
-static inline int mover_image_fits(size_t n, const mover_edge *edges, size_t edges_len, const uint64_t *mu,
-                                   const uint64_t *nu, size_t root, const uint32_t *parents) {
-  size_t i;
-  if (n > 255 || edges_len > 65535 || (parents && root > 255)) return 0;
-  for (i = 0; i < edges_len; i++)
-    if (edges[i].a > 255 || edges[i].b > 255 || edges[i].length > 65535) return 0;
-  for (i = 0; i < n; i++)
-    if (mu[i] > 4294967295u || nu[i] > 4294967295u || (parents && parents[i] > 255)) return 0;
-  return 1;
-}
-
-/* Writes an image with its sections back to back: n vertices, the edges, n amounts mu and n amounts nu,
- * and a tree of a root and n parents; NULL for `parents` writes none. Returns how many bytes it wrote:
- * MOVER_IMAGE_SIZE(n, edges_len), and n + 1 more for a tree.
- * Returns 0 and writes nothing if image_len is less, or if a number does not fit its bytes: n, an end, the
- * root or a parent above 255, a length or the number of edges above 65,535, an amount above 4,294,967,295.
- * Nothing else is examined: that is for the calls that are given the image. */
-static inline size_t mover_image_write(size_t n, const mover_edge *edges, size_t edges_len, const uint64_t *mu,
-                                       const uint64_t *nu, size_t root, const uint32_t *parents, uint8_t *image,
-                                       size_t image_len) {
-  size_t lengths[4], at = MOVER_IMAGE_HEADER, i;
-  uint8_t *to;
-  if (!mover_image_fits(n, edges, edges_len, mu, nu, root, parents)) return 0;
-  lengths[0] = 4 * edges_len;
-  lengths[1] = lengths[2] = 4 * n;
-  lengths[3] = parents ? n + 1 : 0;
-  if (image_len < MOVER_IMAGE_SIZE(n, edges_len) + lengths[3]) return 0;
-  to = image + MOVER_IMAGE_HEADER;
-  mover_put(image, n, 2);
-  mover_put(image + 2, edges_len, 2);
-  for (i = 0; i < 4; i++) {
-    mover_put(image + 4 + 8 * i, at, 4);
-    mover_put(image + 8 + 8 * i, lengths[i], 4);
-    at += lengths[i];
-  }
-  for (i = 0; i < edges_len; i++, to += 4) {
-    mover_put(to, edges[i].a, 1);
-    mover_put(to + 1, edges[i].b, 1);
-    mover_put(to + 2, edges[i].length, 2);
-  }
-  for (i = 0; i < n; i++, to += 4) mover_put(to, mu[i], 4);
-  for (i = 0; i < n; i++, to += 4) mover_put(to, nu[i], 4);
-  if (parents) {
-    mover_put(to++, root, 1);
-    for (i = 0; i < n; i++) mover_put(to++, parents[i], 1);
-  }
-  return at;
-}
+#define MOVER_IMAGE_WRITTEN_MAX 2661 /* MOVER_IMAGE_SIZE(64, 512) + 65: enough for every written image */
 
 /* The record, for n vertices:
  *

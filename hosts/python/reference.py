@@ -1,9 +1,10 @@
-"""What the tests hold the library to: definitions written out, and random patches."""
+"""What the tests hold the library to: definitions written out, images built byte for
+byte, and random patches."""
 
 import random
 import struct
 from fractions import Fraction
-from typing import Any, Dict, List, NamedTuple, Set, Tuple
+from typing import Any, Dict, List, NamedTuple, Optional, Sequence, Set, Tuple
 
 from weight_mover import Answer, Edge, Entry
 
@@ -175,6 +176,94 @@ def faults(problem: Problem, best: Answer, apart: List[List[int]]) -> List[str]:
     return [name for name, held in holds.items() if not held]
 
 
+# ---- Images
+
+
+class Contents(NamedTuple):
+    """What an image holds; it need be no patch and no tree."""
+
+    edges: List[Edge]
+    mu: List[int]
+    nu: List[int]
+    root: int = 0
+    parents: Optional[List[int]] = None
+
+
+def in_order(edges: List[Edge]) -> List[Edge]:
+    """The edges with the lower end first, rising."""
+    return sorted((min(a, b), max(a, b), length) for a, b, length in edges)
+
+
+def image_of(
+    edges: List[Edge],
+    mu: List[int],
+    nu: List[int],
+    root: int = 0,
+    parents: Optional[List[int]] = None,
+) -> bytes:
+    """The image with its sections back to back, the edges as they stand. All goes that
+    fits the bytes: no vertex or 255, 65,535 edges, lists of unequal length."""
+    records = [bytes([a, b]) + length.to_bytes(2, "little") for a, b, length in edges]
+    sections = [
+        b"".join(records),
+        b"".join(amount.to_bytes(4, "little") for amount in mu),
+        b"".join(amount.to_bytes(4, "little") for amount in nu),
+        b"" if parents is None else bytes([root, *parents]),
+    ]
+    return laid_out(len(mu), len(edges), sections)
+
+
+def laid_out(
+    n: int, m: int, sections: List[bytes], gaps: Sequence[bytes] = 5 * (b"",)
+) -> bytes:
+    """An image of four sections of any length, a gap before each and after the last."""
+    header, body = struct.pack("<BBH", n, 0, m), b""
+    for gap, section in zip(gaps, sections):
+        body += gap
+        header += struct.pack("<II", 36 + len(body), len(section))
+        body += section
+    return header + body + gaps[4]
+
+
+def directory(image: bytes) -> List[Tuple[int, int]]:
+    """Offset and length of each section."""
+    numbers = struct.unpack_from("<8I", image, 4)
+    return list(zip(numbers[::2], numbers[1::2]))
+
+
+def with_gaps(image: bytes, gaps: Sequence[bytes]) -> bytes:
+    """The same image with a gap before each section and after the last; those that it
+    had are gone."""
+    sections = [image[at : at + length] for at, length in directory(image)]
+    return laid_out(image[0], image[2] + 256 * image[3], sections, gaps)
+
+
+def form_refusal(image: bytes) -> int:
+    """The number that refuses an image for its form, 0 if none does."""
+    if not 36 <= len(image) <= 65_536:
+        return 11
+    end = 36
+    for at, length in directory(image):
+        if at < end or at + length > len(image):
+            return 12
+        end = at + length
+    n, second, m = struct.unpack_from("<BBH", image)
+    lengths = [length for _, length in directory(image)]
+    if second != 0 or lengths[:3] != [4 * m, 4 * n, 4 * n]:
+        return 13
+    if lengths[3] not in (0, n + 1):
+        return 13
+    if not 1 <= n <= 64:
+        return 1
+    return 2 if m > 512 else 0
+
+
+def rewritten(image: bytes) -> Tuple[int, Any]:
+    """The number that refuses an image, 0 if none does, and the image without gaps."""
+    number = form_refusal(image)
+    return number, with_gaps(image, 5 * [b""]) if number == 0 else []
+
+
 # ---- Random patches
 
 
@@ -321,12 +410,86 @@ def swapped(
     return root, hang(problem.n, sorted(tree), root)
 
 
+# ---- Random images
+
+
+def random_bytes(draw: random.Random, size: int) -> bytes:
+    bits = draw.getrandbits(8 * size + 1) >> 1  # Python 3.8 draws no 0 bits
+    return bits.to_bytes(size, "little")
+
+
+def random_number(draw: random.Random, bits: int) -> int:
+    """Of so many bits, often the least or the largest."""
+    number = draw.getrandbits(bits)
+    return draw.choice([0, 2**bits - 1, number, number])
+
+
+def random_contents(draw: random.Random, n: int, m: int) -> Contents:
+    """Any numbers that fit an image, with a tree or without one."""
+    edges = [
+        (random_number(draw, 8), random_number(draw, 8), random_number(draw, 16))
+        for _ in range(m)
+    ]
+    mu, nu = ([random_number(draw, 32) for _ in range(n)] for _ in range(2))
+    if draw.random() < 0.5:
+        return Contents(edges, mu, nu)
+    root, *parents = (random_number(draw, 8) for _ in range(n + 1))
+    return Contents(edges, mu, nu, root, parents)
+
+
+def fitting_contents(draw: random.Random) -> Contents:
+    """Of 1 to 64 vertices and up to 512 edges, most often few."""
+    n = draw.choice([1, 2, draw.randint(1, 10), draw.randint(1, 64), 64])
+    few, many = draw.randint(2, 30), draw.randint(31, 512)
+    m = draw.choice([0, 1, few, few, few, many, 255, 256, 512])
+    return random_contents(draw, n, m)
+
+
+def changed(draw: random.Random, given: Contents) -> Contents:
+    """The contents with one bit of one number changed."""
+    edges = [list(edge) for edge in given.edges]
+    mu, nu, tree = given.mu[:], given.nu[:], [given.root, *(given.parents or [])]
+    places = [(edge, k, bits) for edge in edges for k, bits in enumerate((8, 8, 16))]
+    places += [(painting, x, 32) for painting in (mu, nu) for x in range(len(mu))]
+    if given.parents is not None:
+        places += [(tree, x, 8) for x in range(len(tree))]
+    numbers, place, bits = draw.choice(places)
+    numbers[place] ^= 1 << draw.randrange(bits)
+    parents = None if given.parents is None else tree[1:]
+    return Contents([(a, b, c) for a, b, c in edges], mu, nu, tree[0], parents)
+
+
 def spread(draw: random.Random, image: bytes) -> bytes:
-    """The same image with gaps before its sections and after them."""
-    header, body = bytearray(image[:36]), b""
-    for place in range(4, 36, 8):
-        at, length = struct.unpack_from("<II", image, place)
-        body += bytes(draw.randrange(256) for _ in range(draw.randrange(5)))
-        struct.pack_into("<I", header, place, 36 + len(body))
-        body += image[at : at + length]
-    return bytes(header) + body + bytes(draw.randrange(5))
+    """The same image with gaps before its sections and after them, of any bytes: few,
+    or up to the largest size of an image."""
+    room = 65_536 - len(image)
+    spare = draw.choice([0, 1, 4, 20, 300, draw.randint(0, room), room])
+    cuts = sorted(draw.choice([0, spare, draw.randint(0, spare)]) for _ in range(4))
+    sizes = [high - low for low, high in zip([0] + cuts, cuts + [spare])]
+    return with_gaps(image, [random_bytes(draw, size) for size in sizes])
+
+
+def damaged(draw: random.Random, image: bytes) -> bytes:
+    """The image with up to two faults in its header, at times cut off or too long."""
+    wrong = bytearray(image)
+    for _ in range(draw.randrange(3)):
+        if draw.random() < 0.5:  # n, the byte after it or m
+            wrong[draw.randrange(4)] = draw.randrange(256)
+        else:  # an offset or a length
+            place = draw.randrange(4, 36, 4)
+            (number,) = struct.unpack_from("<I", wrong, place)
+            near = (number + draw.choice([-4, -1, 1, 4])) % 2**32
+            struct.pack_into("<I", wrong, place, draw.choice([near, number ^ 2**31]))
+    whole = len(image)
+    size = draw.choice([whole, whole, whole, draw.randrange(whole), 65_536, 65_537])
+    return bytes(wrong[:size].ljust(size, b"x"))
+
+
+def random_image(draw: random.Random) -> bytes:
+    """Of any contents with gaps; at times of no vertex, too many vertices or edges, and
+    damaged."""
+    some, few = draw.randint(1, 64), draw.randint(0, 30)
+    n = draw.choice([some, some, some, some, 64, 0, 65, draw.randint(65, 255)])
+    m = draw.choice([few, few, few, few, 512, 513, draw.randint(513, 1000)])
+    image = spread(draw, image_of(*random_contents(draw, n, m)))
+    return draw.choice([image, damaged(draw, image)])

@@ -1,11 +1,13 @@
-"""Tests of the Python module: marked cases, refusals, inputs, random patches, weights.
+"""Tests of the Python module: marked cases, refusals, inputs, random patches, images,
+weights.
 
     python3 test_weight_mover.py
 
 Answers on random patches are held to the definitions, which reference.py writes out,
-and, where networkx is installed, to its network simplex and shortest paths; weights to
-exact fractions. MOVER_CASES sets the number of patches, at least 200, and MOVER_SEED
-repeats a run. The last line is "N passed, M failed".
+and, where networkx is installed, to its network simplex and shortest paths; images to
+those that reference.py builds, and weights to exact fractions. MOVER_CASES sets the
+number of patches, at least 200, and MOVER_SEED repeats a run. The last line is
+"N passed, M failed".
 """
 
 import array
@@ -32,25 +34,34 @@ from unittest import mock
 import example
 import weight_mover as wm
 from reference import (
+    Contents,
     Problem,
     as_weights,
+    changed,
+    directory,
     entries,
     faults,
+    fitting_contents,
+    image_of,
     in_grains,
+    in_order,
     marked,
     moves,
     random_amounts,
     random_double,
+    random_image,
     random_problem,
     random_single,
     random_tree,
     random_weights,
     rerooted,
+    rewritten,
     single,
     spread,
     swapped,
     tree_figures,
     weigh,
+    with_gaps,
 )
 
 
@@ -82,6 +93,31 @@ def draws(salt: str, count: int) -> Iterator[Tuple[str, random.Random]]:
     for index in range(count):
         draw = random.Random(f"{SEED} {salt} {index}")
         yield f"seed {SEED}, {salt} {index}", draw
+
+
+def as_tables(given: Contents) -> List[Any]:
+    """What mover_write_image takes before its buffer; the edges as they stand."""
+    edges = [[edge[part] for edge in given.edges] for part in range(3)]
+    parents = given.parents or []
+    return [
+        len(given.mu),
+        *((ctypes.c_uint32 * len(part))(*part) for part in edges),
+        *((ctypes.c_uint64 * len(part))(*part) for part in (given.mu, given.nu)),
+        given.parents is not None,
+        given.root,
+        (ctypes.c_uint32 * len(parents))(*parents),
+    ]
+
+
+def patches(
+    salt: str, count: int = CASES // 4
+) -> Iterator[Tuple[str, random.Random, Contents]]:
+    """Random problems and any numbers that fit an image, with trees or without, each
+    with words that name it and its generator. The edges are in any order."""
+    for name, draw, problem in problems(salt, count):
+        tree: Any = random_tree(draw, problem) if draw.random() < 0.5 else ()
+        yield f"{name}, problem", draw, Contents(*problem, *tree)
+        yield f"{name}, any numbers", draw, fitting_contents(draw)
 
 
 def outcome(call: Callable[..., Any], *arguments: Any) -> Tuple[int, Any]:
@@ -168,6 +204,28 @@ MARKED = {
 }
 # fmt: on
 
+# Case A's image, written by hand.
+IMAGE_A = bytes.fromhex(
+    "04 00 0300"  # n, 0 and m
+    "24000000 0c000000"  # where the edges start, and how many bytes they have
+    "30000000 10000000"  # mu
+    "40000000 10000000"  # nu
+    "50000000 05000000"  # the tree
+    "00 01 0200  01 02 0300  02 03 0100"
+    "05000000 00000000 01000000 00000000"
+    "00000000 02000000 01000000 03000000"
+    "03  01 02 03 03"
+)
+
+# What the largest image without gaps holds.
+LARGEST = Contents(
+    [(a, b, 1000 * a + b) for a in range(16) for b in range(a + 1, a + 33)],
+    [2**32 - 1 - x for x in range(64)],
+    [2**24 + x for x in range(64)],
+    255,
+    list(range(64, 128)),
+)
+
 
 class MarkedCases(unittest.TestCase):
     """Cases A to H and two more through each call."""
@@ -221,6 +279,38 @@ class MarkedCases(unittest.TestCase):
                 self.assertEqual(wm.read(image), whole)
                 without = dataclasses.replace(whole, root=0, parents=None)
                 self.assertEqual(wm.read(wm.write(*case.problem)), without)
+
+    def test_write_image(self) -> None:
+        for name, case in MARKED.items():
+            trees: List[Any] = [(case.root, case.parents), ()]
+            for tree in trees:
+                with self.subTest(name, tree=tree):
+                    image = wm.write(*case.problem, *tree)
+                    self.assertEqual(image, image_of(*case.problem, *tree))
+                    self.assertIs(type(image), bytes)
+        case = MARKED["A"]
+        self.assertEqual(wm.write(*case.problem, case.root, case.parents), IMAGE_A)
+        without = IMAGE_A[:32] + bytes(4) + IMAGE_A[36:80]
+        self.assertEqual(wm.write(*case.problem), without)
+
+    def test_rewrite(self) -> None:
+        """Gaps in each place: none, one byte, and all that an image may have."""
+        for name, case in MARKED.items():
+            trees: List[Any] = [(case.root, case.parents), ()]
+            for tree in trees:
+                image = image_of(*case.problem, *tree)
+                most = b"\xa5" * (65_536 - len(image))
+                forms = [image, with_gaps(image, 5 * [b"gap"])]
+                for place in range(5):
+                    for gap in (b"\x00", b"\xff", most):
+                        gaps = 5 * [b""]
+                        gaps[place] = gap
+                        forms.append(with_gaps(image, gaps))
+                with self.subTest(name, tree=tree):
+                    for form in forms:
+                        self.assertEqual(wm.rewrite(form), image)
+                    self.assertEqual(len(forms[-1]), 65_536)
+                    self.assertIs(type(wm.rewrite(forms[-1])), bytes)
 
     def test_distances(self) -> None:
         wanted = {
@@ -324,17 +414,26 @@ class Refusals(unittest.TestCase):
         self.assertEqual(caught.exception.number, number, (call, arguments))
 
     def by_all(self, number: int, edges: Any, mu: Any, nu: Any, *tree: Any) -> None:
-        """Refused by all calls that look so far; without a tree, one that would do."""
+        """Refused by all calls that look so far; without a tree, one that would do.
+        The writer looks at 1 alone of these."""
         given = tree or (0, [max(x - 1, 0) for x in range(len(mu))])
         self.refused(number, wm.evaluate, edges, mu, nu, *given)
         self.refused(number, wm.is_optimal, edges, mu, nu, *given)
-        self.refused(number, wm.run, wm.write(edges, mu, nu, *given))
+        image = image_of(in_order(edges), mu, nu, *given)
+        without = image_of(in_order(edges), mu, nu)
+        self.refused(number, wm.run, image)
         if tree:
             wm.solve(edges, mu, nu)
-            wm.run(wm.write(edges, mu, nu))
+            wm.run(without)
         else:
             self.refused(number, wm.solve, edges, mu, nu)
-            self.refused(number, wm.run, wm.write(edges, mu, nu))
+            self.refused(number, wm.run, without)
+        if number == 1:
+            self.refused(1, wm.write, edges, mu, nu)
+            self.refused(1, wm.write, edges, mu, nu, *given)
+        else:
+            self.assertEqual(wm.write(edges, mu, nu), without)
+            self.assertEqual(wm.write(edges, mu, nu, *given), image)
         if number <= 5:
             self.refused(number, wm.distances, len(mu), edges)
             self.refused(number, wm.distances_of_records, len(mu), edges)
@@ -346,8 +445,15 @@ class Refusals(unittest.TestCase):
         self.by_all(1, [], 65 * [0], 65 * [0])
         self.refused(1, wm.distances, 2**64 - 1, [])
         self.refused(1, wm.solve, [], 10_000 * [0], [])
-        self.refused(1, wm.read, wm.write([], [], []))
-        self.refused(1, wm.read, wm.write([], 65 * [0], 65 * [0]))
+        for n in (0, 65, 66, 128, 255):
+            for call in (wm.run, wm.read, wm.rewrite):
+                self.refused(1, call, image_of([], n * [0], n * [0]))
+                self.refused(1, call, image_of([], n * [0], n * [0], 0, n * [0]))
+            self.refused(1, wm.write, [], n * [0], n * [0])
+        for n in (256, 257, 320, 65_537):
+            self.refused(1, wm.write, [], n * [0], n * [0])
+        for n in (1, 64):
+            self.assertEqual(wm.read(wm.write([], n * [0], n * [0])).n, n)
 
     def test_2_table_size(self) -> None:
         self.refused(2, wm.solve, PATH, [1, 0, 0], [0, 1])
@@ -361,8 +467,20 @@ class Refusals(unittest.TestCase):
         self.refused(2, wm.distances, 33, every[:513])
         self.refused(2, wm.distances_of_records, 33, every[:513])
         self.refused(2, wm.solve, every[:513], 33 * [0], 33 * [0])
-        self.refused(2, wm.run, wm.write(every[:513], 33 * [0], 33 * [0]))
-        self.refused(2, wm.read, wm.write(every[:513], 33 * [0], 33 * [0]))
+        paintings = 33 * [0], 33 * [0]
+        for m in (513, 514, 528):
+            for call in (wm.run, wm.read, wm.rewrite):
+                self.refused(2, call, image_of(every[:m], *paintings))
+            self.refused(2, wm.write, every[:m], *paintings)
+        self.refused(2, wm.write, 65_537 * [(0, 1, 1)], *paintings)
+        whole = wm.write(every[:512], *paintings)
+        self.assertEqual(wm.read(whole).edges, sorted(every[:512]))
+
+    def test_2_lists_to_write(self) -> None:
+        for n in (1, 2, 63, 64):
+            for other in (0, n - 1, n + 1, 65):
+                self.refused(2, wm.write, [], n * [0], other * [0])
+                self.refused(2, wm.write, [], n * [0], n * [0], 0, other * [0])
 
     def test_3_edges(self) -> None:
         for edges in ([(0, 2, 1)], [(1, 1, 1)], [(0, 1, 1), (1, 0, 2)]):
@@ -371,6 +489,7 @@ class Refusals(unittest.TestCase):
         image[36:38] = 1, 0  # the module turns edges round, so in an image alone
         self.refused(3, wm.run, image)
         self.assertEqual(wm.read(image).edges, [(1, 0, 1)])
+        self.assertEqual(wm.rewrite(image), image)
 
     def test_4_lengths(self) -> None:
         long = [(0, 1, 65_536)], [1, 0], [0, 1]
@@ -378,8 +497,7 @@ class Refusals(unittest.TestCase):
         self.refused(4, wm.evaluate, *long, 0, [0, 0])
         self.refused(4, wm.is_optimal, *long, 0, [0, 0])
         self.refused(4, wm.distances_of_records, 2, long[0])
-        with self.assertRaises(OverflowError):  # an image has two bytes for a length
-            wm.write(*long)
+        self.refused(13, wm.write, *long)  # an image has two bytes for a length
         self.assertEqual(wm.solve([(0, 1, 65_535)], [1, 0], [0, 1]).cost, 65_535)
         self.assertEqual(wm.solve([(0, 1, 0)], [1, 0], [0, 1]).cost, 0)
         self.refused(4, wm.distances, 2, [(0, 1, 2**32 - 1)])
@@ -413,7 +531,7 @@ class Refusals(unittest.TestCase):
 
     def test_11_image_size(self) -> None:
         image = wm.write(*MARKED["A"].problem)
-        for call in (wm.run, wm.read):
+        for call in (wm.run, wm.read, wm.rewrite):
             for wrong in (b"", bytes(35), image + bytes(65_537 - len(image))):
                 self.refused(11, call, wrong)
             call(image + bytes(65_536 - len(image)))
@@ -421,7 +539,7 @@ class Refusals(unittest.TestCase):
     def test_12_section_places(self) -> None:
         image = wm.write(*MARKED["A"].problem, 3, [1, 2, 3, 3])
         changes = [(4, 35), (12, 47), (12, 2**32 - 1), (28, len(image)), (36, None)]
-        for call in (wm.run, wm.read):
+        for call in (wm.run, wm.read, wm.rewrite):
             for place, value in changes:
                 wrong = bytearray(image[: -1 if value is None else None])
                 if value is not None:
@@ -430,15 +548,43 @@ class Refusals(unittest.TestCase):
 
     def test_13_section_lengths(self) -> None:
         image = wm.write([(0, 1, 1)], [1, 0], [0, 1])
-        for call in (wm.run, wm.read):
+        for call in (wm.run, wm.read, wm.rewrite):
             wrong = bytearray(image)
             wrong[1] = 1
             self.refused(13, call, wrong)
             wrong = bytearray(image)
             struct.pack_into("<I", wrong, 16, 4)  # mu of 4 bytes
             self.refused(13, call, wrong)
-            self.refused(13, call, wm.write([(0, 1, 1)], [1, 0], [1]))
-            self.refused(13, call, wm.write([(0, 1, 1)], [1, 0], [0, 1], 0, [0]))
+            for other in ([], [1], [0, 1, 0]):
+                self.refused(13, call, image_of([(0, 1, 1)], [1, 0], other))
+                short = image_of([(0, 1, 1)], [1, 0], [0, 1], 0, other)
+                self.refused(13, call, short)
+
+    def test_13_numbers(self) -> None:
+        """Both sides of each bound, at the first place, the last and one between; by
+        the call too, since the module puts the lower end first."""
+        u32, u64 = 2**32 - 1, 2**64 - 1
+        bounds: Dict[str, Tuple[int, int]] = {
+            "a": (255, u32), "b": (255, u32), "lengths": (65_535, u32),
+            "mu": (u32, u64), "nu": (u32, u64),
+            "root": (255, u64), "parents": (255, u32),
+        }  # fmt: skip
+        for part, (limit, largest) in bounds.items():
+            for place in (0, 2, -1):
+                for x in (limit, limit + 1, limit + 2, 2 * limit + 2, largest):
+                    lists = {name: [3, 1, 4, 1, 5] for name in bounds}
+                    lists[part][0 if part == "root" else place] = x
+                    edges = list(zip(lists["a"], lists["b"], lists["lengths"]))
+                    root, parents = lists["root"][0], lists["parents"]
+                    given = Contents(edges, lists["mu"], lists["nu"], root, parents)
+                    call = "mover_write_image", *as_tables(given)
+                    if x > limit:
+                        self.refused(13, wm.write, *given)
+                        self.filled(13, b"", 1000, *call)
+                    else:
+                        wanted = image_of(in_order(edges), *given[1:])
+                        self.assertEqual(wm.write(*given), wanted)
+                        self.filled(0, image_of(*given), 1000, *call)
 
     def test_order(self) -> None:
         """The first check that fails gives the number."""
@@ -451,6 +597,114 @@ class Refusals(unittest.TestCase):
         self.refused(7, wm.evaluate, PATH, [FULL, 0, 0], 3 * [0], 9, 3 * [5])
         self.refused(8, wm.evaluate, PATH, 3 * [0], 3 * [0], 9, 3 * [5])
         self.refused(9, wm.evaluate, PATH, 3 * [0], 3 * [0], 0, [0, 2, 0])
+
+    def test_order_of_writing(self) -> None:
+        """1, 2 and 13 in this order. Without parents the root is not looked at."""
+        wide, long = 513 * [(0, 256, 65_536)], [(0, 1, 65_536)]
+        refused: List[Tuple[Any, ...]] = [
+            (1, [], [], [0]),
+            (1, wide, [], []),
+            (1, long, 65 * [2**32], 65 * [0]),
+            (1, long, 65 * [0], [2**32], 256, [256]),
+            (2, wide, [0], [0]),
+            (2, long, [0], []),
+            (2, [], [2**32], [0, 0]),
+            (2, [], [0, 0], [2**32]),
+            (2, [], [0], [0], 256, []),
+            (2, [], [0], [0], 0, [256, 0]),
+            (2, long, [2**32], [0], 256, [256, 256]),
+            (13, long, [0], [0]),
+            (13, [], [0], [0], 256, [0]),
+        ]
+        for number, *given in refused:
+            self.refused(number, wm.write, *given)
+        problem = MARKED["A"].problem
+        roots: List[Any] = [3, 255, 256, 2**64 - 1, 2**64, -1, 0.5, None, "root"]
+        for root in roots:
+            self.assertEqual(wm.write(*problem, root), wm.write(*problem))
+            self.assertEqual(wm.write(*problem, root, None), wm.write(*problem))
+
+    def filled(self, number: int, new: bytes, places: int, *call: Any) -> None:
+        """A call into a lent buffer: its first bytes are new, and nothing else changes,
+        in the buffer or next to it. The length is that of the new bytes."""
+        memory = bytearray(k % 251 for k in range(places + 16))
+        wanted = memory[:5] + new + memory[5 + len(new) :]
+        length = ctypes.c_size_t(99)
+        lent: Any = (ctypes.c_uint8 * places).from_buffer(memory, 5)
+        got = wm._call(*call, lent, ctypes.byref(length))
+        self.assertEqual((got, length.value), (number, len(new)), call)
+        self.assertEqual(memory, wanted, call)
+
+    def test_lent_buffers(self) -> None:
+        """A buffer that is too short by one byte or more is refused by 2."""
+        case = MARKED["A"]
+        for given in (
+            Contents(*case.problem),
+            Contents(*case.problem, case.root, case.parents),
+            Contents([], [7], [7]),
+            LARGEST,
+        ):
+            image = image_of(*given)
+            spaced, size = with_gaps(image, 5 * [b"gap"]), len(image)
+            calls: List[Any] = [
+                ("mover_write_image", *as_tables(given)),
+                ("mover_rewrite", (ctypes.c_uint8 * len(spaced))(*spaced)),
+            ]
+            for call in calls:
+                for places in (size, size + 1, 2 * size, 65_536):
+                    self.filled(0, image, places, *call)
+                for places in (0, 1, 35, 36, size - 5, size - 1):
+                    self.filled(2, b"", places, *call)
+
+    def test_largest_image(self) -> None:
+        """The module's own buffers are long enough."""
+        image = image_of(*LARGEST)
+        self.assertEqual(len(image), wm._WRITTEN_MAX)
+        self.assertEqual(wm.write(*LARGEST), image)
+        for tail in (0, 1, 1000, 65_536 - len(image)):
+            self.assertEqual(wm.rewrite(image + bytes(tail)), image)
+
+    def test_kept_buffers(self) -> None:
+        """A refused buffer keeps its bytes, whatever the number, and 2 is before 13."""
+        wide = Contents([(0, 1, 1)], [0, 2**32], [0, 0], 0, [0, 0])
+        for places in (59, 60, 1000):
+            self.filled(13, b"", places, "mover_write_image", *as_tables(wide))
+        for places in (0, 36, 58):
+            self.filled(2, b"", places, "mover_write_image", *as_tables(wide))
+        for n in (0, 65):
+            none = Contents([], n * [0], n * [0])
+            self.filled(1, b"", 1000, "mover_write_image", *as_tables(none))
+            self.filled(1, b"", 0, "mover_write_image", *as_tables(none))
+        wrong = {
+            1: image_of([], 65 * [0], 65 * [0]),
+            2: image_of(513 * [(0, 1, 1)], [0], [0]),
+            11: bytes(35),
+            12: IMAGE_A[:-1],
+            13: image_of([], [0], []),
+        }
+        for number, image in wrong.items():
+            given = (ctypes.c_uint8 * len(image))(*image)
+            for places in (0, 36, 5000):
+                self.filled(number, b"", places, "mover_rewrite", given)
+
+    def test_lists_to_write(self) -> None:
+        """What the module never gives: lists of unequal length, and, without a tree, a
+        root and parents, which are not looked at."""
+        case = MARKED["A"]
+        given = as_tables(Contents(*case.problem, case.root, case.parents))
+        for place in (1, 2, 3, 4, 5, 8):
+            for change in (-1, 1):
+                lists = given[:]
+                kind, size = lists[place]._type_, len(lists[place]) + change
+                lists[place] = (kind * size)(*lists[place][:size])
+                self.filled(2, b"", 1000, "mover_write_image", *lists)
+        without = image_of(*case.problem)
+        others: List[List[int]] = [[], [0], 4 * [256], 100 * [2**32 - 1]]
+        for parents in others:
+            for root in (0, 256, 2**64 - 1):
+                tree = False, root, (ctypes.c_uint32 * len(parents))(*parents)
+                call = "mover_write_image", *given[:6], *tree
+                self.filled(0, without, 1000, *call)
 
     def test_climbs(self) -> None:
         """The climb refuses by 1, 2, 8 and 10 in this order and keeps its table."""
@@ -590,11 +844,13 @@ class Header(unittest.TestCase):
         self.assertEqual(int(numbers["MAX_TOTAL"]), wm.MAX_TOTAL)
         self.assertEqual(int(numbers["RECORD_MAX"]), wm._RECORD_MAX)
         self.assertEqual(int(numbers["IMAGE_HEADER"]), wm._HEADER)
+        self.assertEqual(int(numbers["IMAGE_WRITTEN_MAX"]), wm._WRITTEN_MAX)
         major, minor, patch = map(int, wm.__version__.split("."))
         self.assertEqual(int(numbers["VERSION"]), 10_000 * major + 100 * minor + patch)
 
     def test_signatures(self) -> None:
         kinds: Dict[str, Any] = {
+            "bool": ctypes.c_bool,
             "float": ctypes.c_float,
             "uint8_t": ctypes.c_uint8,
             "int32_t": ctypes.c_int32,
@@ -653,19 +909,34 @@ class Inputs(unittest.TestCase):
             rows = (kind(list(edge)) for edge in edges)
             got = wm.evaluate(rows, kind(mu), kind(nu), 3, kind([1, 2, 3, 3]))
             self.assertEqual(got.cost, wanted)
+            rows = (kind(list(edge)) for edge in edges)
+            image = wm.write(rows, kind(mu), kind(nu), 3, kind([1, 2, 3, 3]))
+            self.assertEqual(image, IMAGE_A)
             masks = wm.mark_ancestors(4, 3, kind([1, 2, 3, 3]), 1, kind([0, 0, 0, 8]))
             self.assertEqual(masks, [0, 2, 2, 10])
             self.assertEqual(wm.to_weights(kind([5, 0])), [5 * GRAIN, 0])
             self.assertEqual(wm.to_amounts(kind([1, 0])), [FULL, 0])
         columns: Any = memoryview(bytes(sum(edges, ()))).cast("B", [len(edges), 3])
         self.assertEqual(wm.solve(columns, mu, nu).cost, wanted)
-        image = wm.write(edges, mu, nu)
-        forms: List[Any] = [image, bytearray(image), array.array("B", image)]
-        for form in forms:
-            self.assertEqual(wm.run(form).cost, wanted)
-            self.assertEqual(wm.run(memoryview(form)).cost, wanted)
+
+    def test_images(self) -> None:
+        """Bytes, and buffers of them, which are not changed."""
+        case, image = MARKED["A"], IMAGE_A + b"tail"
+        whole = wm.Patch(4, *case.problem, case.root, case.parents)
         doubled = bytes(byte for byte in image for _ in range(2))
-        self.assertEqual(wm.run(memoryview(doubled)[::2]).cost, wanted)
+        forms: List[Any] = [
+            image,
+            bytearray(image),
+            array.array("B", image),
+            array.array("b", memoryview(image).cast("b")),
+            (ctypes.c_uint8 * len(image))(*image),
+        ]
+        views = [memoryview(form) for form in forms] + [memoryview(doubled)[::2]]
+        for form in forms + views:
+            self.assertEqual(wm.run(form).cost, case.cost)
+            self.assertEqual(wm.read(form), whole)
+            self.assertEqual(wm.rewrite(form), IMAGE_A)
+            self.assertEqual(bytes(memoryview(form)), image)
 
     def test_weights(self) -> None:
         """Lists and buffers of floats are weights, for a painting too."""
@@ -747,12 +1018,12 @@ class Inputs(unittest.TestCase):
             ("y", lambda x: wm.mark_ancestors(2, 0, [0, 0], x, [0, 0]), u64),
             ("mask", lambda x: wm.mark_ancestors(2, 0, [0, 0], 1, [0, x]), u64),
             ("amount", lambda x: wm.to_weights([0, x]), u64),
-            ("end in an image", lambda x: wm.write([(0, x, 1)], mu, nu), 255),
-            ("length in an image", lambda x: wm.write([(0, 1, x)], mu, nu), 65_535),
-            ("mu in an image", lambda x: wm.write(edges, [x, 0], nu), u32),
-            ("nu in an image", lambda x: wm.write(edges, mu, [0, x]), u32),
-            ("root in an image", lambda x: wm.write(edges, mu, nu, x, [0, 0]), 255),
-            ("parent in an image", lambda x: wm.write(edges, mu, nu, 0, [x, 0]), 255),
+            ("end in an image", lambda x: wm.write([(0, x, 1)], mu, nu), u32),
+            ("length in an image", lambda x: wm.write([(0, 1, x)], mu, nu), u32),
+            ("mu in an image", lambda x: wm.write(edges, [x, 0], nu), u64),
+            ("nu in an image", lambda x: wm.write(edges, mu, [0, x]), u64),
+            ("root in an image", lambda x: wm.write(edges, mu, nu, x, [0, 0]), u64),
+            ("parent in an image", lambda x: wm.write(edges, mu, nu, 0, [x, 0]), u32),
         ]
 
     def test_numbers_that_do_not_fit(self) -> None:
@@ -783,16 +1054,15 @@ class Inputs(unittest.TestCase):
             (wm.evaluate, (*two, 0, {0: 0, 1: 0})),
             (wm.mark_ancestors, (2, 0, [0, 0], 1, 0)),
             (wm.mark_ancestors, (2, 0, [0, 0], 1, {0: 0, 1: 0})),
-            (wm.run, (36,)),
-            (wm.run, ("image",)),
-            (wm.read, (array.array("I", range(20)),)),
+            (wm.write, (*two[:2], {0, 1})),
+            (wm.write, (*two, 0, 0)),
+            (wm.write, (*two, 0, {0: 0, 1: 0})),
+            (wm.write, (*two, None, [0, 0])),
         ]
+        for image in (36, "image", None, [0, 1], array.array("I", range(20))):
+            calls += [(call, (image,)) for call in (wm.run, wm.read, wm.rewrite)]
         for call, arguments in calls:
             self.assertRaises(TypeError, call, *arguments)
-        with self.assertRaises(OverflowError):
-            wm.write([], 256 * [0], 256 * [0])
-        with self.assertRaises(OverflowError):
-            wm.write(65_536 * [(0, 1, 1)], *two[1:])
 
     @unittest.skipUnless(np, "numpy is not installed")
     def test_numpy(self) -> None:
@@ -813,8 +1083,10 @@ class Inputs(unittest.TestCase):
             masks = wm.mark_ancestors(4, *tree, parents[0], np.zeros(4, dtype=kind))
             self.assertEqual(masks, [0, 2, 2, 2])
             image = wm.write(columns, *paintings, *tree)
-            self.assertEqual(image, wm.write(*case.problem, 3, case.parents))
+            self.assertEqual(image, IMAGE_A)
             self.assertEqual(wm.run(np.frombuffer(image, dtype="u1")).cost, case.cost)
+            spaced = np.frombuffer(image + b"tail", dtype="u1")
+            self.assertEqual(wm.rewrite(spaced), IMAGE_A)
         records = np.array(edges, dtype=[("a", "u4"), ("b", "u4"), ("length", "u4")])
         self.assertEqual(wm.solve(records, mu, nu).cost, case.best)
         self.assertEqual(type(wm.solve(records, np.array(mu), nu).cost), int)
@@ -859,8 +1131,9 @@ class Inputs(unittest.TestCase):
                 wm.solve(edges, wrong, nu)
         with self.assertRaises(TypeError):
             wm.solve(np.array(edges).T[:2].T, mu, nu)
-        with self.assertRaises(TypeError):
-            wm.run(np.zeros(36, dtype="i4"))
+        for call in (wm.run, wm.read, wm.rewrite):
+            with self.assertRaises(TypeError):
+                call(np.zeros(36, dtype="i4"))
 
 
 class Surroundings(unittest.TestCase):
@@ -881,6 +1154,14 @@ class Surroundings(unittest.TestCase):
         result = doctest.testmod(wm)
         self.assertGreater(result.attempted, 0)
         self.assertEqual(result.failed, 0)
+
+    def test_names(self) -> None:
+        """Each call can be imported; those on trees are methods."""
+        calls = {name[len("mover_") :] for name in wm._SIGNATURES}
+        names = {name for name in calls if not name.startswith("tree_")}
+        names = names - {"write_image"} | {"write", "Tree"}
+        self.assertEqual(names - set(wm.__all__), set())
+        self.assertTrue(all(hasattr(wm, name) for name in wm.__all__))
 
     def test_library_elsewhere(self) -> None:
         load = wm._library.__wrapped__
@@ -940,6 +1221,73 @@ class ByDefinition(unittest.TestCase):
             apart = wm.distances(problem.n, problem.edges)
             best = wm.run(spread(draw, wm.write(*problem)))
             self.assertEqual(faults(problem, best, apart), [], name)
+
+    def test_write_image(self) -> None:
+        """By the module, which puts the edges in order, and by the call as they are."""
+        for name, _, given in patches("write"):
+            ordered = given._replace(edges=in_order(given.edges))
+            wanted = image_of(*ordered)
+            image = wm.write(*given)
+            self.assertEqual(image, wanted, name)
+            self.assertEqual(wm.read(image), wm.Patch(len(given.mu), *ordered), name)
+            buffer, length = (ctypes.c_uint8 * len(wanted))(), ctypes.c_size_t()
+            results = buffer, ctypes.byref(length)
+            number = wm._call("mover_write_image", *as_tables(given), *results)
+            self.assertEqual((number, length.value), (0, len(wanted)), name)
+            self.assertEqual(bytes(buffer), image_of(*given), name)
+
+    def test_one_image_for_one_patch(self) -> None:
+        """Equal patches have equal images. A changed bit, an edge or a vertex more, a
+        tree more or less: each gives another."""
+        for name, draw, given in patches("pairs"):
+            edges, mu, nu, root, parents = given
+            other_tree: Any = (0, [0] * len(mu)) if parents is None else ()
+            others = [
+                given,
+                changed(draw, given),
+                Contents(edges[1:] if edges else [(0, 0, 0)], *given[1:]),
+                Contents(edges, mu, nu, *other_tree),
+            ]
+            if len(mu) < 64:
+                more = None if parents is None else parents + [0]
+                others.append(Contents(edges, mu + [0], nu + [0], root, more))
+            images = [wm.write(*other) for other in others]
+            self.assertEqual(len(set(images)), len(others), name)
+            again = [(b, a, length) for a, b, length in edges]
+            draw.shuffle(again)
+            self.assertEqual(wm.write(again, *given[1:]), images[0], name)
+
+    def test_rewrite(self) -> None:
+        """The gaps are gone, and nothing else changes: read and run say the same."""
+        sizes, accepted = set(), 0
+        for name, draw, given in patches("rewrite"):
+            if draw.random() < 0.8:
+                given = given._replace(edges=in_order(given.edges))
+            image = image_of(*given)
+            spaced = spread(draw, image)
+            result = wm.rewrite(spaced)
+            self.assertEqual(result, image, name)
+            self.assertEqual(wm.rewrite(result), image, name)
+            self.assertEqual(wm.read(result), wm.Patch(len(given.mu), *given), name)
+            self.assertEqual(wm.read(spaced), wm.read(result), name)
+            answer = outcome(wm.run, spaced)
+            self.assertEqual(outcome(wm.run, result), answer, name)
+            sizes.add(len(spaced))
+            accepted += answer[0] == 0
+        self.assertGreater(len(sizes), CASES // 10)
+        self.assertEqual(max(sizes), 65_536)
+        self.assertGreater(accepted, CASES // 10)
+
+    def test_damaged_images(self) -> None:
+        """Rewriting and reading refuse by the same number, or not at all."""
+        met = {0: 0, 1: 0, 2: 0, 11: 0, 12: 0, 13: 0}
+        for name, draw in draws("damaged", CASES):
+            image = random_image(draw)
+            number, wanted = rewritten(image)
+            self.assertEqual(outcome(wm.rewrite, image), (number, wanted), name)
+            self.assertEqual(outcome(wm.read, image)[0], number, name)
+            met[number] += 1
+        self.assertGreater(min(met.values()), CASES // 100)
 
     def test_trees(self) -> None:
         """Trees, and trees with a wrong parent or root."""
@@ -1083,6 +1431,7 @@ class WrongAnswers(unittest.TestCase):
         at_end = [(place, -1) for place in range(-5, 0)]
         record = [(-1, byte) for byte in (0, 8, 12, 13, 13 + 1, 13 + 5)]
         lists = [(place, 0) for place in range(-10, 0)]
+        image = [(-2, byte) for byte in (*range(40), -1)] + [(-1, 0)]
         tests: List[Tuple[Type[unittest.TestCase], str, List[Tuple[int, int]]]] = [
             (MarkedCases, "solve", at_end),
             (ByDefinition, "solve", at_end),
@@ -1098,6 +1447,10 @@ class WrongAnswers(unittest.TestCase):
             (ByDefinition, "to_weights", [(-1, 0), (-1, -1)]),
             (MarkedCases, "run", record),
             (MarkedCases, "read", lists),
+            (MarkedCases, "write_image", image),
+            (ByDefinition, "write_image", image),
+            (MarkedCases, "rewrite", image),
+            (ByDefinition, "rewrite", image),
         ]
         for test, name, places in tests:
             for place, item in places:
@@ -1105,6 +1458,32 @@ class WrongAnswers(unittest.TestCase):
                 with mock.patch.object(wm, "_call", spoil(name, place, item)):
                     test(f"test_{name}").run(result)
                 self.assertTrue(result.failures, (test, name, place, item))
+
+    def test_images(self) -> None:
+        """A writer or rewriter that is wrong in another way, and a test fails."""
+
+        def tail_off(image: bytes) -> bytes:
+            at, length = directory(image)[3]
+            return image[: at + length]
+
+        def sorting(image: bytes) -> bytes:
+            patch = wm.read(image)
+            return write(patch.edges, patch.mu, patch.nu, patch.root, patch.parents)
+
+        write = wm.write
+        wrong: List[Tuple[str, str, Callable[..., Any]]] = [
+            ("rewrite", "rewrite", bytes),
+            ("rewrite", "rewrite", tail_off),
+            ("rewrite", "rewrite", sorting),
+            ("write", "write_image", lambda a, mu, *rest: write(a, mu, mu, *rest[1:])),
+            ("write", "write_image", lambda a, mu, nu, *tree: write(a, mu, nu)),
+            ("write", "write_image", image_of),
+        ]
+        for name, test, call in wrong:
+            result = unittest.TestResult()
+            with mock.patch.object(wm, name, call):
+                ByDefinition(f"test_{test}").run(result)
+            self.assertTrue(result.failures, (name, call))
 
 
 def spoil(spoiled: str, place: int, item: int) -> Callable[..., Any]:

@@ -28,11 +28,15 @@ Costs count grains times hundredths of a millimetre. A tree is a root and the pa
 each vertex; the root is its own parent, and every other vertex shares an edge of the
 patch with its parent.
 
+An image is a patch with its paintings and, if there is one, a tree in bytes. `write`
+gives equal patches equal bytes and different ones different bytes; images from
+elsewhere, with gaps in them, can be compared once `rewrite` has taken the gaps out.
+
 Numbers may come in lists, tuples, other sequences and iterables, and in buffers such as
 `array.array` and numpy arrays; edges also as a numpy array of three columns. What the
 library does not accept raises `Refusal`, what is no number or no whole one where that
-is wanted `TypeError`, and a whole number that is too large or negative `OverflowError`:
-nothing is rounded or wrapped.
+is wanted `TypeError`, and a whole number that is negative or too large for its C type
+`OverflowError`: nothing is rounded or wrapped.
 
 Every call has buffers of its own and lets other threads run while the library works,
 which uses at most 40 KB of a thread's stack.
@@ -52,6 +56,7 @@ from ctypes import (
     Array,
     Structure,
     byref,
+    c_bool,
     c_float,
     c_int32,
     c_size_t,
@@ -90,13 +95,14 @@ __all__ = [
     "mark_ancestors",
     "read",
     "refusal_text",
+    "rewrite",
     "run",
     "solve",
     "to_amounts",
     "to_weights",
     "write",
 ]
-__version__ = "0.2.0"
+__version__ = "0.3.0"
 
 MAX_VERTICES = 64
 MAX_EDGES = 512
@@ -130,7 +136,8 @@ _TEXTS = (
     "a chain of parents misses the root",
     "the image has under 36 or over 65536 bytes",
     "a section of the image is out of order or out of bounds",
-    "byte 1 of the image is not 0, or a section has the wrong length",
+    "byte 1 of the image is not 0, a section has the wrong length,"
+    " or a number is too large for an image",
     _UNKNOWN,
     "a weight is below 0, above 1 or no number, or an amount is above 16777216",
     "a weight is no whole number of grains",
@@ -147,7 +154,8 @@ class Refusal(ValueError):
 
     `number` says which check failed, 1 to 13, 15 or 16, and `text` what it means. The
     checks run in the order 11, 12, 13 and then 1 to 10; each call says by which it
-    refuses. Before them, weights are refused by 15 and then 16, those of mu first.
+    refuses. `write` alone has 13 last, after 1 and 2. Before all of them, weights are
+    refused by 15 and then 16, those of mu first.
     """
 
     def __init__(self, number: int) -> None:
@@ -161,7 +169,7 @@ class Refusal(ValueError):
 
 # ---- Numbers, checked against the C types that are to hold them
 
-_U8, _U16, _U32, _U64 = (2**bits - 1 for bits in (8, 16, 32, 64))
+_U32, _U64 = (2**bits - 1 for bits in (32, 64))
 
 
 def _number(value: Any, limit: int, name: str) -> int:
@@ -215,7 +223,7 @@ def _weight(value: Any, name: str) -> float:
     return 2.0**-25 if 0 <= value <= 1 else 2.0
 
 
-def _painting(values: Painting, limit: int, name: str) -> List[int]:
+def _painting(values: Painting, name: str) -> List[int]:
     """The amounts of a painting; floats, numpy's too, are weights."""
     items = _row(values, name)
     kinds = {type(item) for item in items}
@@ -231,10 +239,10 @@ def _painting(values: Painting, limit: int, name: str) -> List[int]:
             f"{name}: {other!r} and {weight!r} in one painting: integers are grains,"
             " floats are weights"
         )
-    return to_amounts(items) if floats else _numbers(items, limit, name)
+    return to_amounts(items) if floats else _numbers(items, _U64, name)
 
 
-def _sorted_edges(edges: Edges, end_limit: int, length_limit: int) -> List[Edge]:
+def _sorted_edges(edges: Edges) -> List[Edge]:
     """The edges as the library wants them: lower end first, rising by their ends."""
     result = []
     for place, edge in enumerate(_items(edges, "edges")):
@@ -242,9 +250,7 @@ def _sorted_edges(edges: Edges, end_limit: int, length_limit: int) -> List[Edge]
         numbers = _items(edge, name)
         if len(numbers) != 3:
             raise TypeError(f"{name}: {edge!r} is not (a, b, length)")
-        a = _number(numbers[0], end_limit, name)
-        b = _number(numbers[1], end_limit, name)
-        length = _number(numbers[2], length_limit, name)
+        a, b, length = (_number(number, _U32, name) for number in numbers)
         result.append((a, b, length) if a < b else (b, a, length))
     return sorted(result)
 
@@ -280,6 +286,7 @@ _PROBLEM = [c_size_t] + _EDGE_LISTS + 2 * _U64S
 _GIVEN_TREE = [c_size_t] + _U32S
 _COST_AND_MOVES = [POINTER(c_uint64), POINTER(c_uint32)]
 _N_M_ROOT_TREE = 3 * [POINTER(c_size_t)] + [POINTER(c_uint32)]
+_WRITTEN = _BYTES + [POINTER(c_size_t)]
 
 # What each call of hosts/c/mover.h returns and takes.
 _SIGNATURES = {
@@ -296,6 +303,8 @@ _SIGNATURES = {
         c_uint32,
         _BYTES + _EDGE_LISTS + 2 * _U64S + _U32S + _N_M_ROOT_TREE,
     ),
+    "mover_write_image": (c_uint32, _PROBLEM + [c_bool] + _GIVEN_TREE + _WRITTEN),
+    "mover_rewrite": (c_uint32, _BYTES + _WRITTEN),
     "mover_run": (c_uint32, 2 * _BYTES),
     "mover_to_amounts": (c_uint32, _FLOATS + _U64S),
     "mover_to_weights": (c_uint32, _U64S + _FLOATS),
@@ -353,14 +362,14 @@ def _room(n: int) -> int:
 
 def _edge_lists(edges: Edges) -> List[Any]:
     """The edges as three tables."""
-    rows = _sorted_edges(edges, _U32, _U32)
+    rows = _sorted_edges(edges)
     return [_array(c_uint32, [row[part] for row in rows]) for part in range(3)]
 
 
 def _problem(edges: Edges, mu: Painting, nu: Painting) -> List[Any]:
     """n and the tables of a patch and its paintings; n is the length of mu."""
     amounts = [
-        _array(c_uint64, _painting(painting, _U64, name))
+        _array(c_uint64, _painting(painting, name))
         for painting, name in ((mu, "mu"), (nu, "nu"))
     ]
     return [len(amounts[0]), *_edge_lists(edges), *amounts]
@@ -515,7 +524,7 @@ def distances_of_records(n: SupportsIndex, edges: Edges) -> List[List[int]]:
     """The same as `distances`, by the library's call over edge records."""
     count = _number(n, _U64, "n")
     out = (c_uint32 * _room(count) ** 2)()
-    records = _array(_Edge, _sorted_edges(edges, _U32, _U32))
+    records = _array(_Edge, _sorted_edges(edges))
     _check("mover_distances_of_records", count, records, out)
     return _square(out, count)
 
@@ -657,6 +666,7 @@ def to_weights(amounts: Numbers) -> List[float]:
 # ---- Calls on images
 
 _HEADER = 36  # bytes before the first section
+_WRITTEN_MAX = 2_661  # bytes of a written image of 64 vertices, 512 edges and a tree
 _RECORD_MAX = 16_717  # bytes of the answer for 64 vertices
 
 
@@ -666,6 +676,14 @@ def _image(image: BytesLike) -> Any:
     if view.itemsize != 1:
         raise TypeError(f"image: items of {view.itemsize} bytes where one is wanted")
     return (c_uint8 * view.nbytes).from_buffer_copy(view.tobytes())
+
+
+def _written(size: int, name: str, *arguments: Any) -> bytes:
+    """The image that a call writes, which needs at most `size` bytes, and no more than
+    the largest: an image of more vertices or edges is refused unseen."""
+    buffer, length = (c_uint8 * min(size, _WRITTEN_MAX))(), c_size_t()
+    _check(name, *arguments, buffer, byref(length))
+    return bytes(buffer)[: length.value]
 
 
 def run(image: BytesLike) -> Answer:
@@ -720,29 +738,48 @@ def write(
     root: SupportsIndex = 0,
     parents: Optional[Numbers] = None,
 ) -> bytes:
-    """An image for `run` and `read`: the patch, its paintings and, if parents are
-    given, a tree. Paintings are in grains, or weights if they are floats.
+    """The image of a patch, its paintings and, if parents are given, a tree: the bytes
+    that `run`, `read` and `rewrite` take. Paintings are in grains, or weights if they
+    are floats. Without parents the root is not looked at.
 
-    Raises `OverflowError` for what its bytes cannot hold: more than 255 vertices or
-    65,535 edges, an end, root or parent above 255, a length above 65,535, an amount
-    above 4,294,967,295. Refuses weights by 15 and 16. Nothing else is examined: that is
-    for `run` and `read`.
+    The edges stand in it with the lower end first, rising by their ends. But for the
+    order in which edges and ends are given, and weights for grains, two patches with
+    paintings and tree have equal images exactly if they are equal:
+
+    >>> image = write([(0, 1, 5), (1, 2, 4)], mu=[3, 0, 0], nu=[0, 0, 3])
+    >>> len(image)
+    68
+    >>> image == write([(2, 1, 4), (1, 0, 5)], mu=[3, 0, 0], nu=[0, 0, 3])
+    True
+    >>> image == write([(0, 1, 5), (1, 2, 4)], [3, 0, 0], [0, 0, 3], 0, [0, 0, 1])
+    False
+
+    Refuses by 1; by 2 if there are more than 512 edges, or mu, nu and parents are not
+    of one length; then by 13 if a number does not fit its bytes: an end, root or parent
+    above 255, a length above 65,535, an amount above 4,294,967,295. Refuses weights by
+    15 and 16 before. Nothing else is examined: that is for `run`.
     """
-    rows = _sorted_edges(edges, _U8, _U16)
-    before, after = _painting(mu, _U32, "mu"), _painting(nu, _U32, "nu")
-    tree = b""
+    problem = _problem(edges, mu, nu)
+    tree = (0, _array(c_uint32, []))
     if parents is not None:
-        tree = bytes([_number(root, _U8, "root"), *_numbers(parents, _U8, "parents")])
-    sections = [
-        b"".join(struct.pack("<BBH", *row) for row in rows),
-        struct.pack(f"<{len(before)}I", *before),
-        struct.pack(f"<{len(after)}I", *after),
-        tree,
-    ]
-    n = _number(len(before), _U8, "the number of vertices")
-    m = _number(len(rows), _U16, "the number of edges")
-    header, at = struct.pack("<BBH", n, 0, m), _HEADER
-    for section in sections:
-        header += struct.pack("<II", at, len(section))
-        at += len(section)
-    return header + b"".join(sections)
+        tree = _given_tree(root, parents)
+    size = _HEADER + 4 * len(problem[1]) + 9 * problem[0] + 1
+    return _written(size, "mover_write_image", *problem, parents is not None, *tree)
+
+
+def rewrite(image: BytesLike) -> bytes:
+    """An image, a bytes-like object, written anew: what it holds, with the sections
+    back to back. What is in gaps and after the last section is gone.
+
+    >>> image = write([(0, 1, 5)], mu=[3, 0], nu=[0, 3])
+    >>> rewrite(image + b"a tail") == image
+    True
+
+    The result is no longer than the image, `read` and `run` give for it what they give
+    for the image, and rewriting it changes no byte. So two images hold the same exactly
+    if they are equal after rewriting. The edges stay in the image's order.
+
+    The image's form alone is examined, as by `read`: refuses by 11, 12, 13, 1 and 2.
+    """
+    given = _image(image)
+    return _written(len(given), "mover_rewrite", given)

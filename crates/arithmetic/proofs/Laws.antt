@@ -3,6 +3,7 @@ pub mod Table
 pub mod Fill
 pub mod Product
 pub mod Sum
+pub mod Appended
 pub mod Integer
 pub mod Mask
 pub mod Matrix

@@ -17,6 +17,11 @@ unfoldable pub rows : {A : Type 0} → ℕ → ℕ → (ℕ → ℕ → A) → L
 rows n zero f = []
 rows n (suc k) f = rows n k f ++ tab n (f k)
 
+-- the lists f 0, f 1, .., f (c - 1), one behind the other
+unfoldable pub appended : {A : Type 0} → ℕ → (ℕ → List A) → List A
+appended zero f = []
+appended (suc c) f = appended c f ++ f c
+
 -- the n × n table of f
 abbrev pub matrix : {A : Type 0} → ℕ → (ℕ → ℕ → A) → List A
 matrix n f = rows n n f

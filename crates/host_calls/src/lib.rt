@@ -9,6 +9,9 @@ ghost use Rattle.optimality_test.specs.OptimalityTest.{OptimalityTested};
 ghost use Rattle.tree_walks.specs.MarkAncestors.{markRefusal, markTable};
 ghost use Rattle.skin_weights.specs.Lists.{amountsRefusal, weightsRefusal, amountsTable, weightsTable};
 ghost use Rattle.image_reader.specs.Read.{Read, lists};
+ghost use Rattle.image.specs.Contents.{contents};
+ghost use Rattle.image_writer.specs.WriteImage.{ImageWritten};
+ghost use Rattle.image_rewriter.specs.Rewrite.{Rewritten};
 ghost use Rattle.weight_mover.specs.Run.{Ran};
 
 pub mod records;
@@ -174,6 +177,40 @@ pub extern "C" fn mover_read(
     *root = reading.root;
     *tree = reading.tree;
     reading.refusal
+}
+
+// Writes an image with its sections back to back; without a tree, root and parents are not looked at.
+#[no_mangle]
+pub extern "C" fn mover_write_image(
+    n: usize,
+    a: &[u32],
+    b: &[u32],
+    lengths: &[u32],
+    mu: &[u64],
+    nu: &[u64],
+    tree: bool,
+    root: usize,
+    parents: &[u32],
+    buffer: &mut [u8],
+    length: &mut usize,
+) -> u32
+    ensures { λ r. ⌜ ImageWritten
+        (contents (graph n (now (a .entry)) (now (b .entry)) (now (lengths .entry))) (now (mu .entry)) (now (nu .entry)) tree root (now (parents .entry)))
+        (now (buffer .entry)) r (now (length .exit)) (now (buffer .exit)) ⌝ }
+{
+    let image = image_writer::write_image(n, a, b, lengths, mu, nu, tree, root, parents, buffer);
+    *length = image.length;
+    image.refusal
+}
+
+// Writes an image anew, or refuses it as the reader does.
+#[no_mangle]
+pub extern "C" fn mover_rewrite(image: &[u8], buffer: &mut [u8], length: &mut usize) -> u32
+    ensures { λ r. ⌜ Rewritten (now (image .entry)) (now (buffer .entry)) r (now (length .exit)) (now (buffer .exit)) ⌝ }
+{
+    let anew = image_rewriter::rewrite(image, buffer);
+    *length = anew.length;
+    anew.refusal
 }
 
 // Answers an image by its record: 0, or a refusal number and the buffer as it came.

@@ -10,6 +10,7 @@ ghost use Rattle.little_endian.specs.Steps.Buffer.{placed};
 ghost use Rattle.host_record.specs.Record.{recordBytes, recordSize};
 use little_endian::write::bits_of;
 use little_endian::write::put_byte;
+use little_endian::write::put_bytes;
 use little_endian::write::put_long;
 use little_endian::write::put_word;
 use spanning_tree::tree::Tree;
@@ -23,16 +24,6 @@ fn write_figures(cost: u64, moves: u32, root: u32, out: &mut [u8])
     put_long(0, cost, out);
     put_word(8, moves, out);
     put_byte(12, root, out);
-}
-
-// The section of the parents.
-fn write_parents(n: usize, parents: &[u32], out: &mut [u8])
-    requires { ⌜ (n ≤ length (now parents)) × (n ≤ length (now out)) ⌝ }
-    ensures { λ _. ⌜ now (out .exit) ≡ written 0 (fields 1 n (at (now (parents .entry)))) (now (out .entry)) ⌝ }
-{
-    for i in 0..n {
-        put_byte(i, parents[i], out);
-    }
 }
 
 // The section of the potential.
@@ -74,7 +65,7 @@ pub fn write_record(
     let n = tree.n;
     let parents = tree.parents;
     write_figures(cost, moves, tree.root as u32, out);
-    write_parents(n, &parents, &mut out[13..]);
+    put_bytes(n, &parents, &mut out[13..]);
     let second = 13 + n;
     write_potential(n, potential, &mut out[second..]);
     let third = 13 + 5 * n;

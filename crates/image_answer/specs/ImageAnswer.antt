@@ -4,8 +4,6 @@ use mathlib.Core.Bool.{Bool, cond}
 use mathlib.Core.List.{List, [], _++_}
 use lib.IntN.{ℤ}
 use Rattle.arithmetic.specs.Refusal.{Check, refusal}
-use Rattle.arithmetic.specs.Table.{tab}
-use Rattle.graph.specs.Graph.{Graph, graph}
 use Rattle.graph.specs.Checks.{edgeChecks}
 use Rattle.tree_checks.specs.Checks.{treeChecks}
 use Rattle.measures.specs.Checks.{measureChecks}
@@ -13,13 +11,9 @@ use Rattle.plan_rule.specs.Plan.{plan}
 use Rattle.tree_figures.specs.Figures.{potential, treeCost}
 use Rattle.duality.specs.Best.{Best}
 use Rattle.duality.specs.BestCost.{bestCost}
-use Rattle.image.specs.Image.{hasTree, vertexCount, edgeCount, lowerEnd, upperEnd, edgeLengthOf, amount, rootIn, parentIn}
+use Rattle.image.specs.Image.{hasTree, vertexCount, amount, rootIn, parentIn}
 use Rattle.image.specs.ImageChecks.{imageChecks}
-
--- the graph of an image
-abbrev pub graphOfImage : List ℕ → Graph
-graphOfImage s =
-    graph (vertexCount s) (tab (edgeCount s) (lowerEnd s)) (tab (edgeCount s) (upperEnd s)) (tab (edgeCount s) (edgeLengthOf s))
+use Rattle.image.specs.Contents.{graphOfImage}
 
 -- "An image with a tree is weighed, one without gets the best answer": the checks of the one or the other; `room` is what is said of the
 -- buffer under 2

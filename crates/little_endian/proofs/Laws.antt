@@ -2,3 +2,4 @@ pub mod Signed
 pub mod Buffer
 pub mod Placed
 pub mod Byte
+pub mod Holds

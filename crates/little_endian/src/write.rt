@@ -2,8 +2,8 @@
 ghost use mathlib.Core.Path.{_≡_};
 ghost use Prim.Native.Nat.{_+_, _≤_, _<_};
 ghost use lib.ListN.{length};
-ghost use Rattle.arithmetic.specs.Table.{tab};
-ghost use Rattle.little_endian.specs.LittleEndian.{byteOf, signed};
+ghost use Rattle.arithmetic.specs.Table.{at, tab, written};
+ghost use Rattle.little_endian.specs.LittleEndian.{byteOf, fields, signed};
 ghost use Rattle.little_endian.specs.Steps.Buffer.{placed};
 
 // The 32 bits of z.
@@ -25,6 +25,15 @@ pub fn put_byte(p: usize, v: u32, out: &mut [u8])
     out[p] = (v % 256) as u8;
 }
 
+// Two bytes of y, from place p on.
+pub fn put_two(p: usize, y: u32, out: &mut [u8])
+    requires { ⌜ p + 2 ≤ length (now out) ⌝ }
+    ensures { λ _. ⌜ now (out .exit) ≡ placed p (tab 2 (byteOf y)) (now (out .entry)) ⌝ }
+{
+    out[p] = (y % 256) as u8;
+    out[p + 1] = (y / 256 % 256) as u8;
+}
+
 // Four bytes of x, from place p on.
 pub fn put_word(p: usize, x: u32, out: &mut [u8])
     requires { ⌜ p + 4 ≤ length (now out) ⌝ }
@@ -43,4 +52,14 @@ pub fn put_long(p: usize, x: u64, out: &mut [u8])
 {
     put_word(p, (x % 4294967296) as u32, out);
     put_word(p + 4, (x / 4294967296) as u32, out);
+}
+
+// One byte of each of the first n numbers.
+pub fn put_bytes(n: usize, numbers: &[u32], out: &mut [u8])
+    requires { ⌜ (n ≤ length (now numbers)) × (n ≤ length (now out)) ⌝ }
+    ensures { λ _. ⌜ now (out .exit) ≡ written 0 (fields 1 n (at (now (numbers .entry)))) (now (out .entry)) ⌝ }
+{
+    for i in 0..n {
+        put_byte(i, numbers[i], out);
+    }
 }

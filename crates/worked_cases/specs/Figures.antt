@@ -20,7 +20,7 @@ use Rattle.duality.specs.BestCost.{bestCost}
 use Rattle.optimal_transport.specs.Solve.{solveRefusal}
 use Rattle.image.specs.Image.{amount}
 use Rattle.image_reader.specs.Read.{lists, readRefusal}
-use Rattle.image_answer.specs.ImageAnswer.{graphOfImage}
+use Rattle.image.specs.Contents.{graphOfImage}
 use Rattle.weight_mover.specs.Run.{runRefusal, answerRecord}
 use Rattle.listing.specs.Listing.{listing}
 use Rattle.optimality_test.specs.OptimalityTest.{givenCost}

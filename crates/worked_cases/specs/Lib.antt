@@ -3,3 +3,4 @@ pub mod Cases
 pub mod Best
 pub mod Marks
 pub mod Weights
+pub mod Images

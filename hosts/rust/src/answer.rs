@@ -177,7 +177,7 @@ pub struct Evaluation {
 /// use weight_mover::{run, Patch, Refusal};
 ///
 /// let patch = Patch::new(2).edge(0, 1, 7).mu(&[3, 1]).nu(&[0, 4]);
-/// let image = patch.image().expect("small numbers");
+/// let image = patch.image()?;
 /// assert_eq!(run(&image)?.cost, 21);
 /// assert_eq!(run(&image[..35]), Err(Refusal::ImageSize));
 /// # Ok::<(), Refusal>(())
@@ -197,7 +197,7 @@ pub fn run(image: &[u8]) -> Result<Answer, Refusal> {
 ///
 /// let patch = Patch::new(2).edge(0, 1, 7).mu(&[3, 1]).nu(&[0, 4]).tree(1, &[1, 1]);
 /// let mut answer = Answer::default();
-/// run_into(&patch.image().expect("small numbers"), &mut answer)?;
+/// run_into(&patch.image()?, &mut answer)?;
 /// assert_eq!((answer.root, answer.flow()), (1, vec![3, 0]));
 /// # Ok::<(), weight_mover::Refusal>(())
 /// ```

@@ -2,9 +2,9 @@
 //!
 //! Each returns the number of its refusal, or 0; [`Refusal::check`](crate::Refusal::check) makes a `Result`
 //! of it. After a refusal every table is as it was and every single result is 0. An answer table may be
-//! longer than is asked; what is past the answer stays as it was. All contents are allowed: what is no
-//! graph, no tree, no image or no weight is refused. The calls keep nothing and may be used from several
-//! threads at once.
+//! longer than is asked; what is past the answer stays as it was. All contents are allowed: no table can do
+//! harm, and each call says what it refuses. The calls keep nothing and may be used from several threads at
+//! once.
 //!
 //! A table of n × n numbers has row i from place i × n.
 
@@ -140,6 +140,33 @@ mod ffi {
             m: *mut usize,
             root: *mut usize,
             tree: *mut u32,
+        ) -> u32;
+        pub fn mover_write_image(
+            n: usize,
+            a: *const u32,
+            a_len: usize,
+            b: *const u32,
+            b_len: usize,
+            lengths: *const u32,
+            lengths_len: usize,
+            mu: *const u64,
+            mu_len: usize,
+            nu: *const u64,
+            nu_len: usize,
+            tree: bool,
+            root: usize,
+            parents: *const u32,
+            parents_len: usize,
+            buffer: *mut u8,
+            buffer_len: usize,
+            length: *mut usize,
+        ) -> u32;
+        pub fn mover_rewrite(
+            image: *const u8,
+            image_len: usize,
+            buffer: *mut u8,
+            buffer_len: usize,
+            length: *mut usize,
         ) -> u32;
         pub fn mover_run(image: *const u8, image_len: usize, record: *mut u8, record_len: usize) -> u32;
         pub fn mover_tree_new(n: usize, root: usize, parents: *const u32, parents_len: usize) -> Tree;
@@ -479,6 +506,107 @@ pub fn mover_read(
             m,
             root,
             tree,
+        )
+    }
+}
+
+/// Writes an image into the start of `buffer`: the graph, the measures and, if `tree` is true, the tree, in
+/// sections back to back from byte 36. `length` becomes the image's length,
+/// [`image_size`](crate::image_size); the buffer's other bytes stay as they were.
+///
+/// Without a tree the image ends with an empty section for it, and `root` and `parents` are not looked at. Two
+/// patches with their measures and trees get equal bytes exactly if they are equal.
+///
+/// Refuses by 1, by 2, also for a buffer that is shorter than the image, and then by 13: an end, the root or a
+/// parent above 255, a length above 65,535, an amount above 4,294,967,295. Nothing else is examined: edges out
+/// of order, totals that differ or parents that are no tree are written as they are.
+///
+/// ```
+/// use weight_mover::calls::mover_write_image;
+///
+/// let (mut buffer, mut length) = ([9; 60], 9);
+/// let number = mover_write_image(
+///     2, &[0], &[1], &[7], &[3, 1], &[0, 4], true, 1, &[1, 1], &mut buffer, &mut length,
+/// );
+/// assert_eq!((number, length), (0, 36 + 4 + 16 + 3));
+/// // n, 0 and m; the places and lengths of the sections; the edge, mu, nu and the tree; a byte that stays.
+/// assert_eq!(buffer[..4], [2, 0, 1, 0]);
+/// assert_eq!(buffer[4..36].chunks(4).map(|b| b[0]).collect::<Vec<u8>>(), [36, 4, 40, 8, 48, 8, 56, 3]);
+/// assert_eq!(buffer[36..40], [0, 1, 7, 0]);
+/// assert_eq!(buffer[40..56], [3, 0, 0, 0, 1, 0, 0, 0, 0, 0, 0, 0, 4, 0, 0, 0]);
+/// assert_eq!(buffer[56..], [1, 1, 1, 9]);
+///
+/// let before = buffer;
+/// let number = mover_write_image(
+///     2, &[0], &[256], &[7], &[3, 1], &[0, 4], false, 0, &[], &mut buffer, &mut length,
+/// );
+/// assert_eq!((number, length, buffer), (13, 0, before));
+/// ```
+pub fn mover_write_image(
+    n: usize,
+    a: &[u32],
+    b: &[u32],
+    lengths: &[u32],
+    mu: &[u64],
+    nu: &[u64],
+    tree: bool,
+    root: usize,
+    parents: &[u32],
+    buffer: &mut [u8],
+    length: &mut usize,
+) -> u32 {
+    unsafe {
+        ffi::mover_write_image(
+            n,
+            a.as_ptr(),
+            a.len(),
+            b.as_ptr(),
+            b.len(),
+            lengths.as_ptr(),
+            lengths.len(),
+            mu.as_ptr(),
+            mu.len(),
+            nu.as_ptr(),
+            nu.len(),
+            tree,
+            root,
+            parents.as_ptr(),
+            parents.len(),
+            buffer.as_mut_ptr(),
+            buffer.len(),
+            length,
+        )
+    }
+}
+
+/// Writes an image anew: what `image` holds, as [`mover_write_image`] writes it, into the start of `buffer`.
+/// `length` becomes the length of what is written; the buffer's other bytes stay as they were.
+///
+/// Gaps and a tail are gone, and reading gives what it gave. What is written is never longer than `image`, and
+/// writing it anew changes no byte. Refuses by 11, 12, 13, 1 and 2, as [`mover_read`] does, a buffer that is too
+/// short coming last under 2.
+///
+/// ```
+/// use weight_mover::calls::mover_rewrite;
+/// use weight_mover::Patch;
+///
+/// let image = Patch::new(2).edge(0, 1, 7).mu(&[3, 1]).nu(&[0, 4]).image().expect("small numbers");
+/// let mut longer = image.clone();
+/// longer.extend([5, 5, 5]);
+/// let (mut buffer, mut length) = ([9; 57], 9);
+/// assert_eq!(mover_rewrite(&longer, &mut buffer, &mut length), 0);
+/// assert_eq!((&buffer[..length], &buffer[length..]), (&image[..], &[9][..]));
+/// assert_eq!(mover_rewrite(&longer, &mut buffer[..55], &mut length), 2);
+/// assert_eq!((&buffer[..56], length), (&image[..], 0));
+/// ```
+pub fn mover_rewrite(image: &[u8], buffer: &mut [u8], length: &mut usize) -> u32 {
+    unsafe {
+        ffi::mover_rewrite(
+            image.as_ptr(),
+            image.len(),
+            buffer.as_mut_ptr(),
+            buffer.len(),
+            length,
         )
     }
 }

@@ -37,6 +37,8 @@
 //! | `mover_to_amounts` | [`to_amounts`] | [`to_amounts_into`] |
 //! | `mover_to_weights` | [`to_weights`] | [`to_weights_into`] |
 //! | `mover_read` | [`read`] | [`read_into`] |
+//! | `mover_write_image` | [`Patch::image`] | |
+//! | `mover_rewrite` | [`rewrite`] | [`rewrite_into`] |
 //! | `mover_run` | [`run`] | [`run_into`] |
 //! | `mover_tree_new` | [`Tree::new`] | |
 //! | `mover_tree_depth`, `_parent`, `_subtree` | [`Tree::depth`], [`parent`](Tree::parent), [`subtree`](Tree::subtree) | |
@@ -61,7 +63,7 @@ mod weights;
 pub use answer::{run, run_into, Answer, Evaluation};
 pub use calls::mover_run;
 pub use graph::{distances_of_records, distances_of_records_into, Distances, Edge, Graph};
-pub use patch::{read, read_into, Patch};
+pub use patch::{read, read_into, rewrite, rewrite_into, Patch};
 pub use refusal::Refusal;
 pub use tree::{mark_ancestors, Tree};
 pub use weights::{to_amounts, to_amounts_into, to_weights, to_weights_into};
@@ -74,6 +76,13 @@ pub const MAX_EDGES: usize = 512;
 pub const MAX_LENGTH: u32 = 65_535;
 /// The greatest total of a measure, 2 to the 24th.
 pub const MAX_TOTAL: u64 = 16_777_216;
+
+/// Bytes of a written image of `n` vertices and `m` edges: 36 + 4m + 8n, with a tree n + 1 more.
+///
+/// An image that is read may be longer, by gaps and a tail, up to 65,536 bytes.
+pub const fn image_size(n: usize, m: usize, tree: bool) -> usize {
+    36 + 4 * m + 8 * n + if tree { n + 1 } else { 0 }
+}
 
 /// Bytes of the record for `n` vertices: 4n² + 5n + 13.
 pub const fn record_size(n: usize) -> usize {

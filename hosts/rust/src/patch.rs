@@ -1,6 +1,6 @@
-use crate::calls::mover_read;
+use crate::calls::{mover_read, mover_rewrite, mover_write_image};
 use crate::lend::{lend, settle};
-use crate::{Answer, Graph, Refusal, MAX_EDGES, MAX_VERTICES};
+use crate::{image_size, Answer, Graph, Refusal, MAX_EDGES, MAX_VERTICES};
 
 /// A graph with two measures and, if wanted, a spanning tree to be evaluated: what an image holds.
 ///
@@ -19,7 +19,7 @@ pub struct Patch {
 impl Patch {
     /// A graph of so many vertices without edges, and two measures of 0 everywhere.
     pub fn new(vertices: usize) -> Patch {
-        // No image has more vertices, and no call looks at a measure if there are more than 64.
+        // No text has more vertices, and no call looks at a measure if there are more than 64.
         let zeros = vec![0; vertices.min(255)];
         Patch {
             graph: Graph::new(vertices),
@@ -97,55 +97,44 @@ impl Patch {
         }
     }
 
-    /// The image that the library reads: sections back to back from byte 36, an empty tree included.
+    /// The image that the library reads: sections back to back from byte 36, the tree's at the end, empty if
+    /// there is none. Two patches have equal images exactly if they are equal.
     ///
-    /// None if a number does not fit its bytes: more than 255 vertices or 65,535 edges, an end, root or
-    /// parent above 255, a length above 65,535 or an amount above 4,294,967,295.
+    /// The library writes it, and examines no more than it must. It refuses by 1 and 2, and then by 13 what an
+    /// image has no bytes for: an end, root or parent above 255, a length above 65,535 or an amount above
+    /// 4,294,967,295.
     ///
     /// ```
-    /// use weight_mover::Patch;
+    /// use weight_mover::{Patch, Refusal};
     ///
     /// let patch = Patch::new(2).edge(0, 1, 7).mu(&[3, 1]).nu(&[0, 4]);
-    /// assert_eq!(patch.image().expect("small numbers").len(), 36 + 4 + 8 + 8);
-    /// assert_eq!(patch.edge(0, 256, 1).image(), None);
+    /// assert_eq!(patch.image()?.len(), 36 + 4 + 8 + 8);
+    /// assert_eq!(patch.clone().mu(&[3]).image(), Err(Refusal::TableSize));
+    /// assert_eq!(patch.edge(0, 256, 1).image(), Err(Refusal::SectionLength));
+    /// # Ok::<(), Refusal>(())
     /// ```
-    pub fn image(&self) -> Option<Vec<u8>> {
-        let mut edges = Vec::new();
-        for edge in self.graph.iter() {
-            edges.push(u8::try_from(edge.a).ok()?);
-            edges.push(u8::try_from(edge.b).ok()?);
-            edges.extend(u16::try_from(edge.length).ok()?.to_le_bytes());
-        }
-        let mut tree = Vec::new();
-        if let Some((root, parents)) = self.given_tree() {
-            tree.push(u8::try_from(root).ok()?);
-            for &parent in parents {
-                tree.push(u8::try_from(parent).ok()?);
-            }
-        }
-        let sections = [edges, amounts(&self.mu)?, amounts(&self.nu)?, tree];
-
-        let mut image = vec![u8::try_from(self.graph.vertices).ok()?, 0];
-        image.extend(u16::try_from(self.graph.iter().len()).ok()?.to_le_bytes());
-        let mut at: u32 = 36;
-        for section in &sections {
-            let length = u32::try_from(section.len()).ok()?;
-            image.extend(at.to_le_bytes());
-            image.extend(length.to_le_bytes());
-            at = at.checked_add(length)?;
-        }
-        image.extend(sections.concat());
-        Some(image)
+    pub fn image(&self) -> Result<Vec<u8>, Refusal> {
+        let graph = &self.graph;
+        let (mut image, mut length) = ([0; LARGEST], 0);
+        Refusal::check(mover_write_image(
+            graph.vertices,
+            &graph.a,
+            &graph.b,
+            &graph.lengths,
+            &self.mu,
+            &self.nu,
+            self.root.is_some(),
+            self.root.unwrap_or(0),
+            &self.parents,
+            &mut image,
+            &mut length,
+        ))?;
+        Ok(image[..length].to_vec())
     }
 }
 
-fn amounts(list: &[u64]) -> Option<Vec<u8>> {
-    let mut bytes = Vec::new();
-    for &amount in list {
-        bytes.extend(u32::try_from(amount).ok()?.to_le_bytes());
-    }
-    Some(bytes)
-}
+/// Bytes of the largest image that is written.
+const LARGEST: usize = image_size(MAX_VERTICES, MAX_EDGES, true);
 
 /// Reads an image and judges nothing but its form.
 ///
@@ -154,7 +143,7 @@ fn amounts(list: &[u64]) -> Option<Vec<u8>> {
 ///
 /// // Totals that differ are no matter of form.
 /// let patch = Patch::new(2).edge(0, 1, 7).mu(&[3, 1]).nu(&[0, 5]).tree(1, &[1, 1]);
-/// let image = patch.image().expect("small numbers");
+/// let image = patch.image()?;
 /// assert_eq!(read(&image)?, patch);
 /// assert_eq!(read(&image[..50]), Err(Refusal::SectionPlace));
 /// # Ok::<(), Refusal>(())
@@ -172,7 +161,7 @@ pub fn read(image: &[u8]) -> Result<Patch, Refusal> {
 ///
 /// let patch = Patch::new(2).edge(0, 1, 7).mu(&[3, 1]).nu(&[0, 4]);
 /// let mut other = Patch::new(9);
-/// read_into(&patch.image().expect("small numbers"), &mut other)?;
+/// read_into(&patch.image()?, &mut other)?;
 /// assert_eq!(other, patch);
 /// # Ok::<(), weight_mover::Refusal>(())
 /// ```
@@ -204,4 +193,45 @@ pub fn read_into(image: &[u8], patch: &mut Patch) -> Result<(), Refusal> {
     graph.vertices = n;
     patch.root = (tree == 1).then_some(root);
     Ok(())
+}
+
+/// Writes an image anew, as [`Patch::image`] writes it: gaps and a tail are gone, and it reads as before.
+///
+/// Images that hold equal patches become equal bytes. What is written is never longer than the image, and
+/// writing it anew changes no byte.
+///
+/// ```
+/// use weight_mover::{rewrite, Patch, Refusal};
+///
+/// let image = Patch::new(2).edge(0, 1, 7).mu(&[3, 1]).nu(&[0, 4]).image()?;
+/// let mut longer = image.clone();
+/// longer.extend([5; 100]);
+/// assert_eq!(rewrite(&longer)?, image);
+/// assert_eq!(rewrite(&image)?, image);
+/// assert_eq!(rewrite(&image[..50]), Err(Refusal::SectionPlace));
+/// # Ok::<(), Refusal>(())
+/// ```
+pub fn rewrite(image: &[u8]) -> Result<Vec<u8>, Refusal> {
+    let mut written = [0; LARGEST];
+    let length = rewrite_into(image, &mut written)?;
+    Ok(written[..length].to_vec())
+}
+
+/// The same into a buffer that is there, and may be longer: returns how many bytes were written, and the others
+/// stay as they were. A buffer as long as the image is long enough. After a refusal all bytes are as they were.
+///
+/// ```
+/// use weight_mover::{rewrite_into, Patch, Refusal};
+///
+/// let image = Patch::new(1).mu(&[3]).nu(&[3]).image()?;
+/// let mut buffer = [7; 50];
+/// assert_eq!(rewrite_into(&image, &mut buffer)?, 44);
+/// assert_eq!((&buffer[..44], &buffer[44..]), (&image[..], &[7; 6][..]));
+/// assert_eq!(rewrite_into(&image, &mut buffer[..43]), Err(Refusal::TableSize));
+/// # Ok::<(), Refusal>(())
+/// ```
+pub fn rewrite_into(image: &[u8], buffer: &mut [u8]) -> Result<usize, Refusal> {
+    let mut length = 0;
+    Refusal::check(mover_rewrite(image, buffer, &mut length))?;
+    Ok(length)
 }

@@ -2,15 +2,15 @@ use std::fmt;
 
 /// Why the library refused a call: the numbers of its specification.
 ///
-/// The checks run in the order 11, 12, 13 and then 1 to 10; the first that fails gives the number. Where weights
-/// become amounts, and back, they are 2, 15 and 16, in this order.
+/// The checks run in the order 11, 12, 13 and then 1 to 10; the first that fails gives the number. Where an image
+/// is written they are 1, 2 and 13, in this order, and where weights become amounts, and back, 2, 15 and 16.
 #[derive(Clone, Copy, Debug, PartialEq, Eq, Hash)]
 #[non_exhaustive]
 pub enum Refusal {
     /// 1: the number of vertices is 0 or above 64.
     VertexCount,
     /// 2: more than 512 edges, edge lists of unequal length, a measure or given parents that are not one for
-    /// each vertex, or an answer table or record buffer that is too short.
+    /// each vertex, or an answer table, record buffer or image buffer that is too short.
     TableSize,
     /// 3: an edge has an end that is no vertex, has its ends in falling order, or is not after its forerunner.
     EdgeOrder,
@@ -32,7 +32,8 @@ pub enum Refusal {
     ImageSize,
     /// 12: a section of the image overlaps what is before it, or ends past the image.
     SectionPlace,
-    /// 13: byte 1 of the image is not 0, or a section's length does not fit the counts.
+    /// 13: byte 1 of the image is not 0, or a section's length does not fit the counts. Of what is to be written
+    /// as an image: an end, root or parent is above 255, a length above 65,535 or an amount above 4,294,967,295.
     SectionLength,
     /// 15: a weight is below 0, above 1 or no number, or an amount that is to be a weight is above 16,777,216.
     WeightRange,
@@ -116,7 +117,10 @@ impl fmt::Display for Refusal {
             Refusal::TreeCycle => "a chain of the tree's parents misses the root",
             Refusal::ImageSize => "the image has under 36 or over 65,536 bytes",
             Refusal::SectionPlace => "a section of the image is out of place",
-            Refusal::SectionLength => "a section of the image has a length that does not fit",
+            Refusal::SectionLength => {
+                "byte 1 of the image is not 0, a section has the wrong length, or a number is too large for \
+                 an image"
+            }
             Refusal::WeightRange => {
                 "a weight is below 0, above 1 or no number, or an amount is above 16,777,216"
             }
@@ -145,5 +149,9 @@ mod tests {
             assert_eq!(matches!(refusal, Refusal::Other(_)), !known);
             assert!(refusal.to_string().starts_with(&format!("refused {number}: ")));
         }
+        assert_eq!(
+            Refusal::SectionLength.to_string(),
+            "refused 13: byte 1 of the image is not 0, a section has the wrong length, or a number is too large for an image"
+        );
     }
 }

@@ -5,7 +5,7 @@ use reference::flow::least_cost;
 use std::fs;
 use std::path::{Path, PathBuf};
 use std::process::{Command, Output};
-use weight_mover::text;
+use weight_mover::{text, Refusal};
 
 fn bundled() -> Vec<PathBuf> {
     let directory = Path::new(env!("CARGO_MANIFEST_DIR")).join("../../patches");
@@ -56,7 +56,8 @@ fn converter() {
         let image = scratch("converted.image");
         let output = program(env!("CARGO_BIN_EXE_patch-image"), &[&path, &image]);
         assert!(output.status.success());
-        assert_eq!(fs::read(&image).ok(), patch.image());
+        let written = fs::read(&image).expect("an image");
+        assert_eq!(written, patch.image().expect("small numbers"));
 
         let best = Path::new("--best");
         let output = program(env!("CARGO_BIN_EXE_patch-image"), &[best, &path, &image]);
@@ -121,4 +122,31 @@ fn complaints() {
         program(env!("CARGO_BIN_EXE_patch-image"), &[]).status.code(),
         Some(2)
     );
+}
+
+/// A text may have no vertices, or more of them or of edges than an image: the converter tells the refusal, and
+/// writes nothing.
+#[test]
+fn texts_without_an_image() {
+    let path = scratch("unwritable.patch");
+    let image = scratch("unwritable.image");
+    let _ = fs::remove_file(&image);
+    let zeros = |n: usize| "0 ".repeat(n);
+    let measures = |n: usize| format!("mu {}\nnu {}\n", zeros(n), zeros(n));
+    let ends = (0..64).flat_map(|a| (a + 1..64).map(move |b| format!("edge {a} {b} 1\n")));
+    let edges: String = ends.take(513).collect();
+    let unwritable = [
+        (0, String::new(), Refusal::VertexCount),
+        (65, String::new(), Refusal::VertexCount),
+        (64, edges, Refusal::TableSize),
+    ];
+    for (n, edges, refusal) in unwritable {
+        let content = format!("vertices {n}\n{edges}{}", measures(n));
+        fs::write(&path, content).expect("written");
+        let output = program(env!("CARGO_BIN_EXE_patch-image"), &[&path, &image]);
+        assert_eq!(output.status.code(), Some(1));
+        let said = String::from_utf8_lossy(&output.stderr).into_owned();
+        assert_eq!(said, format!("{}: {refusal}\n", path.display()));
+        assert!(!image.exists());
+    }
 }

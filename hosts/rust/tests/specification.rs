@@ -1,6 +1,7 @@
 //! The specification's marked cases and the examples of its refusal table, through the library.
 
-use weight_mover::{mover_run, record_size, run as run_image, Answer, Evaluation, Patch, Refusal};
+use reference::Problem;
+use weight_mover::{mover_run, record_size, rewrite, run as run_image, Answer, Evaluation, Patch, Refusal};
 
 const RING: [(u32, u32, u32); 4] = [(0, 1, 1), (0, 3, 1), (1, 2, 1), (2, 3, 1)];
 const LINE: [(u32, u32, u32); 3] = [(0, 1, 2), (1, 2, 3), (2, 3, 1)];
@@ -147,17 +148,16 @@ fn refusal_table() {
 /// The examples of the refusal table that are about images.
 #[test]
 fn refusal_table_of_images() {
-    let two = || Patch::new(2).edge(0, 1, 1);
-    let image = |patch: Patch| patch.image().expect("small numbers");
-    assert_eq!(run_image(&image(Patch::new(0))), Err(Refusal::VertexCount));
-    assert_eq!(run_image(&image(Patch::new(65))), Err(Refusal::VertexCount));
-    assert_eq!(run_image(&image(two().mu(&[1]))), Err(Refusal::SectionLength));
-    assert_eq!(
-        run_image(&image(two().tree(0, &[0]))),
-        Err(Refusal::SectionLength)
-    );
+    let two = |mu: &[u64]| Problem::new(2, &[(0, 1, 1)], mu, &[0, 0]);
+    let none = Problem::new(0, &[], &[], &[]);
+    assert_eq!(run_image(&none.image()), Err(Refusal::VertexCount));
+    let many = Problem::new(65, &[], &[0; 65], &[0; 65]);
+    assert_eq!(run_image(&many.image()), Err(Refusal::VertexCount));
+    assert_eq!(run_image(&two(&[1]).image()), Err(Refusal::SectionLength));
+    let one_parent = two(&[0, 0]).with_tree(0, &[0]);
+    assert_eq!(run_image(&one_parent.image()), Err(Refusal::SectionLength));
 
-    let image = image(two());
+    let image = two(&[0, 0]).image();
     let mut record = [0xA5; record_size(2)];
     assert_eq!(mover_run(&image[..35], &mut record), 11);
     assert_eq!(mover_run(&[], &mut []), 11);
@@ -173,12 +173,72 @@ fn refusal_table_of_images() {
     assert_eq!(mover_run(&image, &mut record), 0);
 }
 
+/// The image of case A.
+#[rustfmt::skip]
+const IMAGE_OF_CASE_A: [u8; 85] = [
+    4, 0, 3, 0,
+    36, 0, 0, 0, 12, 0, 0, 0,
+    48, 0, 0, 0, 16, 0, 0, 0,
+    64, 0, 0, 0, 16, 0, 0, 0,
+    80, 0, 0, 0, 5, 0, 0, 0,
+    0, 1, 2, 0, 1, 2, 3, 0, 2, 3, 1, 0,
+    5, 0, 0, 0, 0, 0, 0, 0, 1, 0, 0, 0, 0, 0, 0, 0,
+    0, 0, 0, 0, 2, 0, 0, 0, 1, 0, 0, 0, 3, 0, 0, 0,
+    3, 1, 2, 3, 3,
+];
+
+/// Written, and written anew of one with a gap and a tail.
+#[test]
+fn image_of_case_a() {
+    let plain = Patch::new(4).edges(LINE).mu(&[5, 0, 1, 0]).nu(&[0, 2, 1, 3]);
+    let given = plain.clone().tree(3, &[1, 2, 3, 3]);
+    let mut without = IMAGE_OF_CASE_A[..80].to_vec();
+    without[32] = 0;
+    for (patch, image) in [(given, IMAGE_OF_CASE_A.to_vec()), (plain, without)] {
+        assert_eq!(patch.image(), Ok(image.clone()));
+        let mut apart = image.clone();
+        apart[28] += 2;
+        apart.splice(80..80, [7, 7]);
+        apart.push(7);
+        assert_eq!(rewrite(&apart), Ok(image.clone()));
+        assert_eq!(rewrite(&image), Ok(image));
+    }
+}
+
+/// What the writer examines, each by its own number; what it does not examine it writes.
+#[test]
+fn refusal_table_of_the_writer() {
+    let two = || Patch::new(2).edge(0, 1, 1);
+    assert_eq!(Patch::new(0).image(), Err(Refusal::VertexCount));
+    assert_eq!(Patch::new(65).image(), Err(Refusal::VertexCount));
+    assert_eq!(two().mu(&[0, 0, 0]).image(), Err(Refusal::TableSize));
+    assert_eq!(two().tree(0, &[0]).image(), Err(Refusal::TableSize));
+    let crowded = (0..513).fold(Patch::new(2), |patch, _| patch.edge(0, 1, 1));
+    assert_eq!(crowded.image(), Err(Refusal::TableSize));
+    assert_eq!(two().edge(0, 256, 1).image(), Err(Refusal::SectionLength));
+    assert_eq!(two().edge(256, 257, 1).image(), Err(Refusal::SectionLength));
+    assert_eq!(two().edge(0, 1, 65_536).image(), Err(Refusal::SectionLength));
+    assert_eq!(two().mu(&[0, 1 << 32]).image(), Err(Refusal::SectionLength));
+    assert_eq!(two().nu(&[1 << 32, 0]).image(), Err(Refusal::SectionLength));
+    assert_eq!(two().tree(256, &[0, 0]).image(), Err(Refusal::SectionLength));
+    assert_eq!(two().tree(0, &[0, 256]).image(), Err(Refusal::SectionLength));
+
+    assert_eq!(two().tree(256, &[0]).image(), Err(Refusal::TableSize));
+    assert_eq!(Patch::new(65).edge(0, 256, 1).image(), Err(Refusal::VertexCount));
+
+    let odd = Patch::new(3)
+        .edges([(9, 200, 0), (9, 200, 1)])
+        .mu(&[1, 0, u32::MAX.into()]);
+    assert!(odd.tree(255, &[1, 0, 7]).image().is_ok());
+}
+
 /// Edges are handed over in rising order, however they were added.
 #[test]
 fn builder_sorts_edges() {
     let sorted = Patch::new(4).edges(LINE).mu(&[1, 0, 0, 0]).nu(&[0, 0, 0, 1]);
     let mixed = Patch::new(4).edge(3, 2, 1).edge(1, 0, 2).edge(2, 1, 3);
     let mixed = mixed.mu(&[1, 0, 0, 0]).nu(&[0, 0, 0, 1]);
+    assert!(mixed.image().is_ok());
     assert_eq!(mixed.image(), sorted.image());
     assert_eq!(run(mixed).cost, 6);
 }

@@ -26,7 +26,8 @@ const FORMAT: Format = Format {
     write: Drawing::to_string,
 };
 
-/// Reads a text. What is accepted must come back from its own text and from its image. Says whether it was.
+/// Reads a text. What is accepted must come back from its own text and from its image, which is refused for its
+/// counts alone. Says whether it was.
 fn try_text(format: Format, text: &str) -> Result<bool, String> {
     let drawing = match (format.parse)(text) {
         Ok(drawing) => drawing,
@@ -48,15 +49,14 @@ fn try_text(format: Format, text: &str) -> Result<bool, String> {
         }
     }
     let patch = drawing.patch;
-    let image = patch.image().ok_or("no image")?;
     let (n, m) = (patch.graph().vertices(), patch.graph().iter().len());
+    let image = patch.image();
     let expected = match (n, m) {
-        _ if image.len() > 65_536 => Err(Refusal::ImageSize),
         (0 | 65.., _) => Err(Refusal::VertexCount),
         (_, 513..) => Err(Refusal::TableSize),
         _ => Ok(patch),
     };
-    match read(&image) {
+    match image.and_then(|image| read(&image)) {
         got if got == expected => Ok(true),
         got => Err(format!("the image of {expected:?} is read {got:?}")),
     }

@@ -2,11 +2,13 @@
 //!
 //! `MOVER_CASES` and `MOVER_SEED` are as in the differential tests.
 
-use reference::random::{Fault, Random};
+use reference::random::{self, Fault, Random, FAULTS};
 use reference::random_lists::{faulty_lists, sound_problem, ListFault, LIST_FAULTS, SHARED_FAULTS};
+use reference::random_writer::{accepted, refused, Given, UNWRITABLE};
 use reference::record::Record;
 use reference::runs::{cases, seed};
 use reference::weights::weight;
+use reference::writer::{rewrite as anew, write};
 use reference::Lists;
 use std::fmt::Debug;
 use weight_mover::calls::{
@@ -14,9 +16,9 @@ use weight_mover::calls::{
     mover_solve, mover_to_amounts, mover_to_weights,
 };
 use weight_mover::{
-    distances_of_records, distances_of_records_into, mark_ancestors, read, read_into, run, run_into,
-    to_amounts, to_amounts_into, to_weights, to_weights_into, Answer, Distances, Edge, Evaluation, Graph,
-    Patch, Refusal, Tree,
+    distances_of_records, distances_of_records_into, image_size, mark_ancestors, read, read_into, rewrite,
+    rewrite_into, run, run_into, to_amounts, to_amounts_into, to_weights, to_weights_into, Answer, Distances,
+    Edge, Evaluation, Graph, Patch, Refusal, Tree,
 };
 
 /// The graph of some lists, its edges added in any order and their ends either way.
@@ -384,31 +386,139 @@ fn numbers_do_not_wrap() {
     }
 }
 
-/// What fits no image has none; what fits comes back from it.
+/// Nor do they in an image: what would be right if it were cut to its bytes is refused.
 #[test]
-fn images() {
+fn numbers_do_not_wrap_in_an_image() {
     let two = || {
         Patch::new(2)
             .edge(0, 1, 65_535)
             .mu(&[u32::MAX.into(), 0])
             .tree(255, &[255, 0])
     };
-    let image = two().image().expect("all fits");
-    assert_eq!(read(&image), Ok(two()));
-    let unfit = [
-        Patch::new(256),
-        two().edge(0, 256, 1),
-        two().edge(0, 2, 65_536),
-        two().mu(&[1 << 32, 0]),
-        two().nu(&[0, 1 << 32]),
-        two().tree(256, &[0, 0]),
-        two().tree(0, &[0, 256]),
-        (0..65_536).fold(Patch::new(2), |patch, _| patch.edge(0, 1, 1)),
-    ];
-    for patch in unfit {
-        assert_eq!(patch.image(), None);
+    assert_eq!(read(&two().image().expect("all fits")), Ok(two()));
+    for n in [256 + 2, 65_536 + 2, (1 << 32) + 2, usize::MAX] {
+        let patch = Patch::new(n).edge(0, 1, 1).mu(&[1, 0]).nu(&[0, 1]);
+        assert_eq!(patch.image(), Err(Refusal::VertexCount));
     }
+    let crowded = (0..65_536 + 1).fold(Patch::new(2), |patch, _| patch.edge(0, 1, 1));
+    assert_eq!(crowded.image(), Err(Refusal::TableSize));
+    let too_large = Err(Refusal::SectionLength);
+    for end in [256, 256 + 1, 65_536 + 1, u32::MAX] {
+        assert_eq!(two().edge(0, end, 1).image(), too_large);
+        assert_eq!(two().edge(end, end, 1).image(), too_large);
+        assert_eq!(two().tree(0, &[0, end]).image(), too_large);
+    }
+    for length in [65_536, 65_536 + 7, u32::MAX] {
+        assert_eq!(two().edge(0, 2, length).image(), too_large);
+    }
+    for amount in [1 << 32, (1 << 32) + 1, 1 << 63, u64::MAX] {
+        assert_eq!(two().mu(&[amount, 0]).image(), too_large);
+        assert_eq!(two().nu(&[0, amount]).image(), too_large);
+    }
+    for root in [256, 256 + 1, 1 << 32, usize::MAX] {
+        assert_eq!(two().tree(root, &[0, 0]).image(), too_large);
+    }
+}
 
+/// The image of a patch is what is to be written of it, or the refusal, whatever numbers it has. It reads as the
+/// patch.
+#[test]
+fn images_of_patches() {
+    let (seed, count) = (seed(), cases(1_000));
+    let mut seen = [0; 14];
+    for index in 0..count {
+        let random = &mut Random::for_case(seed, index);
+        let fault = random.pick(&UNWRITABLE);
+        let Given { lists, tree, .. } = match random.below(3) {
+            0 => accepted(random),
+            _ => refused(random, &[fault]),
+        };
+        let edges = graph(random, &lists);
+        let edges = edges.iter().map(|e| (e.a, e.b, e.length));
+        let mut patch = Patch::new(lists.n).edges(edges).mu(&lists.mu).nu(&lists.nu);
+        if tree {
+            patch = patch.tree(lists.root, &lists.parents);
+        }
+        let column = |field: fn(&Edge) -> u32| patch.graph().iter().map(|e| field(&e)).collect();
+        let lists = Lists {
+            a: column(|e| e.a),
+            b: column(|e| e.b),
+            lengths: column(|e| e.length),
+            ..lists
+        };
+        let expected = write(&lists, tree, usize::MAX);
+        let image = patch.image();
+        let got = image.clone().map_err(Refusal::number);
+        assert_eq!(got, expected, "seed {seed}, case {index}: {lists:?}");
+        seen[got.err().unwrap_or(0) as usize] += 1;
+        if let Ok(image) = image {
+            assert_eq!(read(&image), Ok(patch), "seed {seed}, case {index}");
+        }
+    }
+    println!("images of patches: seed {seed}, {count} cases, numbers {seen:?}");
+    let own = (0..14).all(|k| (seen[k] > 0) == [0, 1, 2, 13].contains(&k));
+    assert!(count < 500 || own, "{seen:?}");
+}
+
+/// An image written anew is what the call writes, into a new list and into one buffer again and again.
+#[test]
+fn images_anew() {
+    let (seed, count) = (seed(), cases(3_000));
+    let mut buffer = [7; 3_000];
+    let (mut seen, mut short) = ([0; 14], 0);
+    for index in 0..count {
+        let random = &mut Random::for_case(seed, index);
+        let image = match index % 3 {
+            0 => random::valid_case(random).image,
+            1 => random::damaged_case(random).image,
+            _ => random::faulty_case(random, &[FAULTS[index as usize / 3 % FAULTS.len()]]).image,
+        };
+        let expected = anew(&image, usize::MAX);
+        assert_eq!(
+            rewrite(&image).map_err(Refusal::number),
+            expected,
+            "seed {seed}, case {index}"
+        );
+        let size = expected.map_or(50, |written| written.len());
+        let fewer = random.index(size);
+        let places = random.pick(&[3_000, size, size - 1, fewer]);
+        let mut after = buffer;
+        let length = rewrite_into(&image, &mut after[..places]);
+        match anew(&image, places) {
+            Ok(written) => {
+                buffer[..written.len()].copy_from_slice(&written);
+                assert_eq!(length, Ok(written.len()), "seed {seed}, case {index}");
+            }
+            Err(number) => {
+                assert_eq!(length.map_err(Refusal::number), Err(number));
+                seen[number as usize] += 1;
+                short += u64::from(number == 2 && places < size);
+            }
+        }
+        assert!(buffer == after, "seed {seed}, case {index}");
+    }
+    println!("images anew: seed {seed}, {count} cases, numbers {seen:?}, of short buffers {short}");
+    let own = (0..14).all(|k| (seen[k] > 0) == [1, 2, 11, 12, 13].contains(&k));
+    assert!(count < 1_000 || own && short > 0, "{seen:?}");
+}
+
+/// There is room for the largest image: 64 vertices, 512 edges and a tree.
+#[test]
+fn largest_image() {
+    let edges = (0..64).flat_map(|a| (a + 1..64).map(move |b| (a, b, 65_535)));
+    let patch = Patch::new(64).edges(edges.take(512)).tree(63, &[63; 64]);
+    let image = patch.image().expect("all fits");
+    assert_eq!((image.len(), image_size(64, 512, true)), (2_661, 2_661));
+    let mut long = image.clone();
+    long.resize(65_536, 7);
+    assert_eq!(rewrite(&long), Ok(image));
+    long.push(7);
+    assert_eq!(rewrite(&long), Err(Refusal::ImageSize));
+}
+
+/// What an image holds comes back from it, and is run as it is over tables.
+#[test]
+fn images() {
     let seed = seed();
     let mut reused = (Patch::default(), Answer::default());
     for index in 0..cases(1_000) {

@@ -64,6 +64,11 @@ unfolding sum
 sum-one zero = refl
 sum-one (suc n) = omega (arith, sum-one n)
 
+pub sum-same : (n k : ℕ) (f : ℕ → ℕ) → ((i : ℕ) → i < n → f i ≡ k) → sum n f ≡ n * k
+unfolding sum
+sum-same zero k f h = omega arith
+sum-same (suc n) k f h = omega (arith, sum-same n k f (λ i l. h i (omega arith)), h n (omega arith))
+
 pub sum-add : (n : ℕ) (f g : ℕ → ℕ) → sum n (λ i. f i + g i) ≡ sum n f + sum n g
 unfolding sum
 sum-add zero f g = refl

@@ -6,7 +6,7 @@ use native.Mathlib.Nat.{mul-le-mul-right}
 use native.Mathlib.Numerals.{add-one}
 use native.Mathlib.Omega.{arith}
 use lib.ListN.{length, getD, drop, set, length-append, length-drop, List·getD-append, drop-of-length-le}
-use lib.Seq.{drop-cons, set-at, drop-at, getD-at, getD-append-add}
+use lib.Seq.{drop-cons, set-at, drop-at, getD-at, getD-append-add, ext-getD}
 use Rattle.arithmetic.specs.Table.{at, tab, rows, result, written}
 use Rattle.arithmetic.proofs.Laws.Bools.{case≡}
 
@@ -63,6 +63,12 @@ pub tab-ext : {A : Type 0} (m : ℕ) (f g : ℕ → A) → ((i : ℕ) → i < m 
 unfolding tab
 tab-ext zero f g h = refl
 tab-ext (suc m) f g h = rw (tab-ext m f g (λ i l. h i (omega arith)), h m (omega arith))
+
+-- a list is the table of its own numbers
+pub tab-is : (n : ℕ) (f : ℕ → ℕ) (l : List ℕ) → length l ≡ n → ((i : ℕ) → i < n → f i ≡ at l i) → tab n f ≡ l
+tab-is n f l e h =
+    ext-getD 0 (tab n f) l (length-tab n f ∙ sym e)
+    (λ i b. let k : i < n = omega (arith, length-tab n f) in tab-at n f 0 i k ∙ h i k)
 
 -- a table with f written over its front: what it reads there, how long it is, and its rest
 module _ {A : Type 0} (n : ℕ) (f : ℕ → A) (lent : List A) where

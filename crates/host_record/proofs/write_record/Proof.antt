@@ -6,12 +6,12 @@ use borrow.Author.Needs.{needs}
 use Rattle.host_record.proofs.write_record.Statement.{statement}
 use Rattle.host_record.proofs.write_record.Tie as tie
 
-slice-aggregate-write-parents : tie.Need-slice-aggregate-write-parents
-slice-aggregate-write-parents c = search needs
+slice-aggregate-put-bytes : tie.Need-slice-aggregate-put-bytes
+slice-aggregate-put-bytes c = search needs
 
-write-parents-requires : tie.Need-write-parents-requires
-write-parents-requires c κs =
-    let e : 64 ≡ length (c .before .before .before .before .before .before .before .before .before .before .args .tree .parents) = slice-aggregate-write-parents (c .before) in
+put-bytes-requires : tie.Need-put-bytes-requires
+put-bytes-requires c κs =
+    let e : 64 ≡ length (c .before .before .before .before .before .before .before .before .before .before .args .tree .parents) = slice-aggregate-put-bytes (c .before) in
     omega arith
 
 returns : tie.Need-returns
@@ -20,7 +20,7 @@ returns c =
     let third = fourth .before .before .before .before in
     let second = third .before .before .before .before in
     let first = second .before .before .before .before .before in
-    sections _ _ _ _ _ _ _ _ (first .before .before .before .before .before .before .pre .4) _ _ _ _ _ _ (first .write-figures .ensures) (second .write-parents .ensures) refl
+    sections _ _ _ _ _ _ _ _ (first .before .before .before .before .before .before .pre .4) _ _ _ _ _ _ (first .write-figures .ensures) (second .put-bytes .ensures) refl
     (third .write-potential .ensures) refl (fourth .write-plan .ensures)
 
 pub write-record-spec : {M : Type 1} → statement M
@@ -29,11 +29,11 @@ write-record-spec =
     (tie.spec
     (λ c. omega arith)
     (λ c κs. omega arith)
-    slice-aggregate-write-parents
+    slice-aggregate-put-bytes
     (λ c. omega arith)
     (λ c. omega arith)
     (λ c. omega arith)
-    write-parents-requires
+    put-bytes-requires
     (λ c. omega arith)
     (λ c. omega arith)
     (λ c. omega arith)

@@ -8,7 +8,6 @@ use native.Mathlib.Omega.{arith}
 use lib.Dec.{leb}
 use lib.IntN.{ℤ}
 use lib.ListN.{length, getD, take, drop, length-append, length-drop, List·getD-append}
-use lib.Seq.{take-at}
 use borrow.Author.Tests.{le-leb, lt-leb}
 use Rattle.image_answer.specs.declared.Answer.{Answer}
 use Rattle.arithmetic.specs.Sum.{pick}
@@ -16,7 +15,6 @@ use Rattle.arithmetic.specs.Table.{at, tab, matrix, written}
 use Rattle.arithmetic.proofs.Laws.Bools.{case, clash}
 use Rattle.arithmetic.proofs.Laws.Table.{length-tab, length-rows, tab-at, tab-ext, rows-ext, front-at, written-refused}
 use Rattle.graph.specs.Graph.{graph}
-use Rattle.graph.proofs.Laws.Accepted.{vertices-in}
 use Rattle.given_tree.specs.Given.{given, answersOk}
 use Rattle.plan_rule.specs.Plan.{moves}
 use Rattle.plan_rule.proofs.Laws.PlanMoves.{moves-ext}
@@ -26,15 +24,16 @@ use Rattle.duality.specs.BestCost.{bestCost}
 use Rattle.duality.proofs.Laws.Agree.{SameTree, itself, same-tree, treeCost-same, potential-same, plan-same, best-same}
 use Rattle.duality.proofs.Laws.BestCost.{best-is}
 use Rattle.optimal_transport.specs.Solve.{Solved}
-use Rattle.image.specs.Image.{hasTree, vertexCount, edgeCount, lowerEnd, upperEnd, edgeLengthOf, amount, rootIn, parentIn}
-use Rattle.image.proofs.Laws.ImageCheck.{WellFormed, well-formed}
+use Rattle.image.specs.Image.{hasTree, vertexCount, amount, rootIn, parentIn}
 use Rattle.host_record.specs.Record.{recordSize}
-use Rattle.image_reader.specs.Read.{Lists, roomOk, Read}
-use Rattle.image_answer.specs.ImageAnswer.{graphOfImage, answerRefusal, imagePlan, evaluatedPotential, imageBestCost, BestAnswer}
+use Rattle.image.specs.Contents.{graphOfImage}
+use Rattle.image_reader.specs.Read.{Lists, Read}
+use Rattle.image_reader.proofs.Laws.Tables.{Wide, formed, few, of-vertices, graph-read, amounts-read}
+use Rattle.image_answer.specs.ImageAnswer.{answerRefusal, imagePlan, evaluatedPotential, imageBestCost, BestAnswer}
 use Rattle.image_answer.specs.Steps.Answered.{answerCost, answerRoot, answerParent, answerPotential, answerPlan, success, told, Answered, Spacious}
 use Rattle.image_answer.proofs.Laws.Passed.{Passed, passed}
 use Rattle.image_answer.proofs.Laws.Told.{told-same, told-number, told-success, written-same, success-same, tell-refused}
-use Rattle.image_answer.proofs.Laws.AnswerCheck.{Wide, read-refused, short-refused, mus, nus, before, after, up, evaluated-number, solved-number}
+use Rattle.image_answer.proofs.Laws.AnswerCheck.{read-refused, short-refused, mus, nus, before, after, up, evaluated-number, solved-number}
 
 refused-answer : {s : List ℕ} {fits : Bool} {k : ℕ} {potentials : List ℤ} {entries : List ℕ} {r : Answer}
     → k ≡ answerRefusal s fits → (k ≡ 0 → ⊥) → r ≡ told k (success 0 0 [] 0 0 0) → Answered s fits potentials entries r potentials entries
@@ -47,43 +46,18 @@ refused-answer {s} {k = k} number d tells = record {
   plan-is = rw (← number) (written-refused k _ _ d);
 }
 
--- the first places of a table that was filled, and what it reads there
-front : {A : Type 0} (n : ℕ) (f : ℕ → A) (l lent : List A) → l ≡ written 0 (tab n f) lent → take n l ≡ tab n f
-front n f l lent h = rw h (take-at (tab n f) (drop (length (tab n f)) lent) n (length-tab n f))
-
+-- what a table that was filled reads in its first places
 pub filled-at : {A : Type 0} (n : ℕ) (f : ℕ → A) (d : A) (l lent : List A) → l ≡ written 0 (tab n f) lent → (x : ℕ) → x < n → getD l x d ≡ f x
 filled-at n f d l lent h x k = rw (h, length-tab n f) (front-at n f lent d x k)
 
 -- ---- the answer to what was read
 module _ {s : List ℕ} {t t' : Lists} {n m root tree : ℕ} (read : Read s t 0 n m root tree t') where
-  formed : WellFormed s
-  formed = well-formed s (roomOk s t) (sym (read .refusal)) .0
-
-  few : vertexCount s ≤ 64
-  few = vertices-in (vertexCount s) (formed .vertices) .1
-
-  pub n-most : n ≤ 64
-  n-most = omega (arith, read .n-is, few)
-
-  pub m-most : m ≤ 512
-  m-most = omega (arith, read .m-is, formed .edges)
-
-  -- it stands in the first places of the tables
-  amounts : (x : ℕ) (l lent : List ℕ) → l ≡ written 0 (tab (vertexCount s) (amount s x)) lent → take n l ≡ tab (vertexCount s) (amount s x)
-  amounts x l lent h = rw (read .n-is) (front (vertexCount s) (amount s x) l lent h)
-
-  ends : (f : ℕ → ℕ) (l lent : List ℕ) → l ≡ written 0 (tab (edgeCount s) f) lent → take m l ≡ tab (edgeCount s) f
-  ends f l lent h = rw (read .m-is) (front (edgeCount s) f l lent h)
-
-  graph-read : graph n (take m (t' .lower)) (take m (t' .upper)) (take m (t' .lengths)) ≡ graphOfImage s
-  graph-read = rw (ends (lowerEnd s) _ _ (read .lower-is), ends (upperEnd s) _ _ (read .upper-is), ends (edgeLengthOf s) _ _ (read .lengths-are), read .n-is)
-
   -- a call has room for its answers
   room : (x y z : ℕ) → x ≡ 64 → y ≡ 64 → n * n ≤ z → answersOk (vertexCount s) x y z ≡ true
   unfolding answersOk
   room x y z p q h = rw (
-    le-leb (vertexCount s) x (omega (arith, few)),
-    le-leb (vertexCount s) y (omega (arith, few)),
+    le-leb (vertexCount s) x (omega (arith, few read)),
+    le-leb (vertexCount s) y (omega (arith, few read)),
     le-leb (vertexCount s * vertexCount s) z (rw (read .n-is) at h),
   )
 
@@ -99,9 +73,9 @@ module _ {s : List ℕ} {t t' : Lists} {n m root tree : ℕ} (read : Read s t 0 
         let marked : hasTree s ≡ true = case (hasTree s) (λ h. h) (λ h. absurd (d (read .tree-is ∙ rw h))) in
         let root-is : root ≡ rootIn s = rw marked at (read .root-is) in
         let parents-are : t' .parents ≡ written 0 (tab N (parentIn s)) (t .parents) = rw marked at (read .parents-are) in
-        let up-read : take n (t' .parents) ≡ tab N (parentIn s) = rw (read .n-is) (front N (parentIn s) _ _ parents-are) in
-        let w = rw (graph-read, amounts 0 _ _ (read .mu-is), amounts 1 _ _ (read .nu-is), up-read, root-is) at e in
-        let number = w .refusal ∙ evaluated-number formed marked imbalances potentials entries (room (length imbalances) (length potentials) (length entries) l long spacious) in
+        let up-read : take n (t' .parents) ≡ tab N (parentIn s) = of-vertices read (parentIn s) _ _ parents-are in
+        let w = rw (graph-read read, amounts-read read .0, amounts-read read .1, up-read, root-is) at e in
+        let number = w .refusal ∙ evaluated-number (formed read) marked imbalances potentials entries (room (length imbalances) (length potentials) (length entries) l long spacious) in
         let same : k ≡ 0 → SameTree N (rootIn s) (at (tab N (parentIn s))) (parentIn s)
         = λ z.
         same-tree (up s) (λ x b. rw (up s x b) (passed s true (sym number ∙ z) .parents marked x b)) (rootIn s) in
@@ -130,8 +104,8 @@ module _ {s : List ℕ} {t t' : Lists} {n m root tree : ℕ} (read : Read s t 0 
     solved-answer d {parents} {parents'} l e tells =
         let N = vertexCount s in
         let unmarked : hasTree s ≡ false = case (hasTree s) (λ h. absurd (let y : tree ≡ 1 = read .tree-is ∙ rw h in omega arith)) (λ h. h) in
-        let w = rw (graph-read, amounts 0 _ _ (read .mu-is), amounts 1 _ _ (read .nu-is)) at e in
-        let number = w .refusal ∙ solved-number formed unmarked parents potentials entries (room (length parents) (length potentials) (length entries) l long spacious) in
+        let w = rw (graph-read read, amounts-read read .0, amounts-read read .1) at e in
+        let number = w .refusal ∙ solved-number (formed read) unmarked parents potentials entries (room (length parents) (length potentials) (length entries) l long spacious) in
         let planned = plan-same (itself N 0 (w .p)) (before s) (after s) in
         let cost-read = bestCost (graphOfImage s) (at (mus s)) (at (nus s)) in
         let best : k ≡ 0 → Best (graphOfImage s) (amount s 0) (amount s 1) (w .p) (imagePlan s 0 (w .p)) (w .u) cost-read
@@ -158,9 +132,6 @@ module _ {s : List ℕ} {t t' : Lists} {n m root tree : ℕ} (read : Read s t 0 
 pub not-read : {s : List ℕ} {t t' : Lists} {k n m root tree : ℕ} → Read s t k n m root tree t' → Wide t → (k ≡ 0 → ⊥) → {fits : Bool}
     {potentials : List ℤ} {entries : List ℕ} {r : Answer} → r ≡ told k (success 0 0 [] 0 0 0) → Answered s fits potentials entries r potentials entries
 not-read {s} read w d {fits} tells = refused-answer (read-refused s fits w (read .refusal) d) d tells
-
-pub was-read : {s : List ℕ} {t t' : Lists} {k n m root tree : ℕ} → Read s t k n m root tree t' → k ≡ 0 → Read s t 0 n m root tree t'
-was-read read z = rw z at read
 
 module _ {s : List ℕ} {t t' : Lists} {n m root tree : ℕ} (read : Read s t 0 n m root tree t') where
   pub plan-fits : {places : ℕ} → Spacious s places → n * n ≤ places

@@ -1,65 +1,30 @@
 -- The refusal number of an image: what the reader's number says of it, and that of a call on what was read.
-use Prim.Native.Nat.{ℕ, _≤_}
+use Prim.Native.Nat.{ℕ}
 use mathlib.Core.Path.{_≡_, sym, _∙_}
-use mathlib.Core.Bool.{Bool, true, false, _&&_, and-false}
-use mathlib.Core.List.{List, [], _∷_, _++_, append-assoc, append-nil}
-use native.Mathlib.Omega.{arith}
-use lib.Dec.{leb}
+use mathlib.Core.Bool.{Bool, true, false, and-false}
+use mathlib.Core.List.{List, _++_, append-assoc, append-nil}
 use lib.IntN.{ℤ}
 use lib.ListN.{length}
-use borrow.Author.Tests.{eq-eqb, le-leb, leb-true}
+use borrow.Author.Tests.{eq-eqb}
 use Rattle.arithmetic.specs.Table.{at, tab}
-use Rattle.arithmetic.specs.Refusal.{Check, check, refusal}
-use Rattle.arithmetic.proofs.Laws.Bools.{case, and-true}
+use Rattle.arithmetic.specs.Refusal.{Check, refusal}
 use Rattle.arithmetic.proofs.Laws.Table.{length-tab, tab-at}
 use Rattle.arithmetic.proofs.Laws.Refusal.{stops, past-all, same-after}
-use Rattle.graph.specs.Checks.{verticesOk, sizeChecks, edgeChecks, graphChecks}
-use Rattle.graph.proofs.Laws.Accepted.{vertices-in, sizes-numbered}
+use Rattle.graph.specs.Checks.{sizeChecks, edgeChecks, graphChecks}
+use Rattle.graph.proofs.Laws.Accepted.{sizes-numbered}
 use Rattle.measures.specs.Checks.{measureChecks}
 use Rattle.given_tree.specs.Given.{Given, given, parentsLong, answersOk}
 use Rattle.tree_evaluation.specs.Evaluate.{evaluateRefusal}
 use Rattle.duality.proofs.Laws.Agree.{Same, measures-same, tree-same}
 use Rattle.transport_problem.specs.Checks.{measuresLong}
 use Rattle.optimal_transport.specs.Solve.{solveRefusal}
-use Rattle.image.specs.Image.{sizeOk, sectionsOk, layoutOk, hasTree, vertexCount, edgeCount, amount, rootIn, parentIn}
+use Rattle.image.specs.Image.{hasTree, vertexCount, amount, rootIn, parentIn}
 use Rattle.image.specs.ImageChecks.{imageChecks}
-use Rattle.image.proofs.Laws.ImageCheck.{WellFormed, images-numbered}
-use Rattle.image_reader.specs.Read.{Lists, roomOk, readRefusal}
-use Rattle.image_answer.specs.ImageAnswer.{graphOfImage, answerRefusal}
-use Rattle.image_answer.proofs.Laws.Passed.{lists-read}
-
--- tables that are wide enough for every image that is accepted
-pub record Wide (t : Lists) : Type 0 where
-  pub lower : 512 ≤ length (t .lower)
-  pub upper : 512 ≤ length (t .upper)
-  pub lengths : 512 ≤ length (t .lengths)
-  pub mu : 64 ≤ length (t .mu)
-  pub nu : 64 ≤ length (t .nu)
-  pub parents : 64 ≤ length (t .parents)
-
-within : (x y z : ℕ) → x ≤ y → y ≤ z → leb x z ≡ true
-within x y z h k = le-leb x z (omega arith)
-
-has-room : (s : List ℕ) (t : Lists) → Wide t → vertexCount s ≤ 64 → edgeCount s ≤ 512 → roomOk s t ≡ true
-unfolding roomOk
-has-room s t w v e = search (and-true, within)
-
--- the checks of an image's form
-abbrev formChecks : List ℕ → List Check
-formChecks s = check 11 (sizeOk s) ∷ check 12 (sectionsOk s) ∷ check 13 (layoutOk s) ∷ []
-
--- what refuses an image in wide tables refuses it whatever the room
-refused-anyway : (s : List ℕ) (fits : Bool) {t : Lists} {k : ℕ} → Wide t → k ≡ readRefusal s t → (k ≡ 0 → ⊥) → k ≡ refusal (imageChecks s fits)
-unfolding imageChecks refusal
-refused-anyway s fits {t} {k} w h n =
-    case (verticesOk (vertexCount s))
-    (λ e. case (leb (edgeCount s) 512)
-    (λ f.
-    let room = has-room s t w (vertices-in (vertexCount s) e .1) (leb-true (edgeCount s) 512 f) in
-    let rest = check 1 (verticesOk (vertexCount s)) ∷ check 2 (leb (edgeCount s) 512 && fits) ∷ [] in
-    stops k (formChecks s) rest (rw (e, f, room) at h) n)
-    (λ f. rw f (rw f at h)))
-    (λ e. rw e (rw e at h))
+use Rattle.image.proofs.Laws.ImageCheck.{WellFormed, images-numbered, image-passes, lists-read}
+use Rattle.image_reader.specs.Read.{Lists, readRefusal}
+use Rattle.image_reader.proofs.Laws.Tables.{Wide, refused-anyway}
+use Rattle.image.specs.Contents.{graphOfImage}
+use Rattle.image_answer.specs.ImageAnswer.{answerRefusal}
 
 -- an image that is not read is not answered
 pub read-refused : (s : List ℕ) (fits : Bool) {t : Lists} {k : ℕ} → Wide t → k ≡ readRefusal s t → (k ≡ 0 → ⊥) → k ≡ answerRefusal s fits
@@ -67,10 +32,6 @@ unfolding answerRefusal
 read-refused s fits {t} {k} w h n = stops k (imageChecks s fits) _ (refused-anyway s fits w h n) n
 
 module _ {s : List ℕ} (a : WellFormed s) where
-  image-passes : refusal (imageChecks s true) ≡ 0
-  unfolding imageChecks refusal
-  image-passes = rw (a .size, a .sections, a .layout, a .vertices, le-leb (edgeCount s) 512 (a .edges))
-
   -- "a shorter buffer is refused 2"
   pub short-refused : 2 ≡ answerRefusal s false
   unfolding answerRefusal imageChecks refusal
@@ -85,7 +46,7 @@ module _ {s : List ℕ} (a : WellFormed s) where
   goes-on-alike ds =
       rw append-assoc
       (past-all (sizeChecks (graphOfImage s) true) (edgeChecks (graphOfImage s) ++ ds) (sizes-numbered (graphOfImage s) true) size-passes
-      ∙ sym (past-all (imageChecks s true) (edgeChecks (graphOfImage s) ++ ds) (images-numbered s true) image-passes))
+      ∙ sym (past-all (imageChecks s true) (edgeChecks (graphOfImage s) ++ ds) (images-numbered s true) (image-passes a)))
 
 -- what was read of the vertices, as a call takes it
 abbrev pub mus : List ℕ → List ℕ

@@ -3,34 +3,22 @@ use Prim.Native.Nat.{ℕ, _≤_, _<_}
 use mathlib.Core.Path.{_≡_, refl}
 use mathlib.Core.Bool.{Bool, true}
 use mathlib.Core.List.{List}
-use borrow.Author.Tests.{le-leb}
 use Rattle.arithmetic.specs.Sum.{sum}
-use Rattle.arithmetic.proofs.Laws.Bools.{case, eqb-self}
-use Rattle.arithmetic.proofs.Laws.Table.{length-tab}
+use Rattle.arithmetic.proofs.Laws.Bools.{case}
 use Rattle.arithmetic.proofs.Laws.Refusal.{testOf, numbered, every-holds, both-pass}
-use Rattle.graph.specs.Checks.{listsFit, listsOk, edgeChecks}
+use Rattle.graph.specs.Checks.{edgeChecks}
 use Rattle.graph.specs.Steps.Accepted.{Accepted}
 use Rattle.graph.proofs.Laws.Accepted.{vertices-in}
 use Rattle.tree_checks.specs.Checks.{treeChecks}
 use Rattle.measures.specs.Checks.{measureChecks}
 use Rattle.measures.proofs.Laws.Totals.{equal-in}
 use Rattle.duality.proofs.Laws.Agree.{parents-into}
-use Rattle.image.specs.Image.{hasTree, vertexCount, edgeCount, lowerEnd, upperEnd, edgeLengthOf, amount, rootIn, parentIn}
+use Rattle.image.specs.Image.{hasTree, vertexCount, amount, rootIn, parentIn}
 use Rattle.image.specs.ImageChecks.{imageChecks}
-use Rattle.image.proofs.Laws.ImageCheck.{well-formed, images-numbered}
-use Rattle.image_answer.specs.ImageAnswer.{graphOfImage, answerRefusal}
+use Rattle.image.proofs.Laws.ImageCheck.{well-formed, images-numbered, lists-read}
+use Rattle.image.specs.Contents.{graphOfImage}
+use Rattle.image_answer.specs.ImageAnswer.{answerRefusal}
 use Rattle.image_answer.specs.Steps.Answered.{answerRoot}
-
--- the lists of an image's graph have the lengths that check 2 asks for
-pub lists-read : (s : List ℕ) → edgeCount s ≤ 512 → listsOk (graphOfImage s) ≡ true
-unfolding listsFit
-lists-read s h = rw (
-  length-tab (edgeCount s) (lowerEnd s),
-  length-tab (edgeCount s) (upperEnd s),
-  length-tab (edgeCount s) (edgeLengthOf s),
-  le-leb (edgeCount s) 512 h,
-  eqb-self (edgeCount s),
-)
 
 pub record Passed (s : List ℕ) (fits : Bool) : Type 0 where
   pub fitting : fits ≡ true

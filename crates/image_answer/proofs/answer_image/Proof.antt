@@ -1,6 +1,7 @@
 -- `answer_image` meets its contract.
 use native.Mathlib.Omega.{arith}
-use Rattle.image_answer.proofs.Laws.Answer.{not-read, was-read, n-most, m-most, plan-fits, too-short, fitting}
+use Rattle.image_reader.proofs.Laws.Tables.{was-read, n-most, m-most}
+use Rattle.image_answer.proofs.Laws.Answer.{not-read, plan-fits, too-short, fitting}
 use Rattle.image_answer.proofs.answer_image.Statement.{statement}
 use Rattle.image_answer.proofs.answer_image.Tie as tie
 

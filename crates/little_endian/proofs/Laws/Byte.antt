@@ -7,8 +7,10 @@ use native.Mathlib.Nat.{div-one, div-add-mod, div-div-eq-div-mul, add-mul-div-le
 use native.Mathlib.Omega.{arith}
 use lib.ListN.{length, set}
 use lib.Seq.{sets-eq}
-use Rattle.arithmetic.specs.Table.{tab, rows, written}
+use Rattle.arithmetic.specs.Table.{tab, rows, appended, written}
+use Rattle.arithmetic.proofs.Laws.Sum.{sum-same}
 use Rattle.arithmetic.proofs.Laws.Table.{length-tab, length-rows}
+use Rattle.arithmetic.proofs.Laws.Appended.{length-appended}
 use Rattle.little_endian.specs.LittleEndian.{byteOf, fields}
 use Rattle.little_endian.specs.Steps.Buffer.{placed}
 use Rattle.little_endian.proofs.Laws.Buffer.{Placing}
@@ -18,6 +20,11 @@ use Rattle.little_endian.proofs.Laws.Placed.{placed-one, placed-then, p
 pub one-store : (p x : ℕ) (l : List ℕ) → p < length l → set l p (x % 256) ≡ placed p (tab 1 (byteOf x)) l
 unfolding tab byteOf
 one-store p x l h = rw (div-one x) (placed-one p (x % 256) l h)
+
+pub two-stores : (p x : ℕ) (l : List ℕ) → p + 2 ≤ length l
+    → set (set l p (x % 256)) (p + 1) (x / 256 % 256) ≡ placed p (tab 2 (byteOf x)) l
+unfolding tab byteOf placed
+two-stores p x l h = let e : p + 1 ≡ suc p = omega arith in rw (div-one x, e) (sets-eq (x % 256 ∷ x / 256 % 256 ∷ []) l p h)
 
 pub four-stores : (p x : ℕ) (l : List ℕ) → p + 4 ≤ length l
     → set (set (set (set l p (x % 256)) (p + 1) (x / 256 % 256)) (p + 2) (x / 65536 % 256)) (p + 3) (x / 16777216 % 256)
@@ -85,3 +92,20 @@ module _ (k : ℕ) (f : ℕ → ℕ) {n : ℕ} {lent : List ℕ} where
 
   pub section-end : {i : ℕ} {out : List ℕ} → Placing 0 n (λ i. fields k i f) lent i out → n ≤ i → out ≡ written 0 (fields k n f) lent
   section-end w h = placing-end w h ∙ placed-front (fields k n f) lent
+
+-- ---- pieces of z bytes each, one behind the other
+pub length-pieces : (z : ℕ) (f : ℕ → List ℕ) → ((i : ℕ) → length (f i) ≡ z) → (i : ℕ) → length (appended i f) ≡ z * i
+length-pieces z f each i = omega (arith, length-appended i f, sum-same i z (λ j. length (f j)) (λ j _. each j))
+
+module _ (z : ℕ) (f : ℕ → List ℕ) (each : (i : ℕ) → length (f i) ≡ z) {n : ℕ} {lent : List ℕ} where
+  pub pieces-none : Placing 0 n (λ i. appended i f) lent 0 lent
+  unfolding appended
+  pieces-none = placing-none refl
+
+  pub pieces-more : {i p : ℕ} {m o : List ℕ} → Placing 0 n (λ i. appended i f) lent i m → i < n → z * i + z ≤ length lent → p ≡ z * i
+      → o ≡ placed p (f i) m → Placing 0 n (λ i. appended i f) lent (i + 1) o
+  unfolding appended
+  pieces-more {i} w h room q s = placing-more (f i) w h (rw add-one) (omega (arith, length-pieces z f each i)) (omega (arith, each i)) s
+
+  pub pieces-end : {i : ℕ} {out : List ℕ} → Placing 0 n (λ i. appended i f) lent i out → n ≤ i → out ≡ written 0 (appended n f) lent
+  pieces-end w h = placing-end w h ∙ placed-front (appended n f) lent

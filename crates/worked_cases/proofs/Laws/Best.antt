@@ -22,7 +22,8 @@ use Rattle.tree_figures.specs.Figures.{treeCost}
 use Rattle.duality.specs.BestCost.{bestCost}
 use Rattle.duality.proofs.Laws.Best.{IntegerCertificate, certified-best}
 use Rattle.image.specs.Image.{amount}
-use Rattle.image_answer.specs.ImageAnswer.{graphOfImage, BestAnswer}
+use Rattle.image.specs.Contents.{graphOfImage}
+use Rattle.image_answer.specs.ImageAnswer.{BestAnswer}
 use Rattle.image_answer.proofs.Laws.Passed.{passed}
 use Rattle.weight_mover.specs.Run.{runRefusal}
 use Rattle.worked_cases.specs.Figures.{Case, Bytes, BestFigures, said, sameℤ, potentialOf, withinEdge, certifies, certified, holds, reads, room, every}

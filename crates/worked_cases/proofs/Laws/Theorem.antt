@@ -10,7 +10,7 @@ use Rattle.arithmetic.specs.Bools.{all, any}
 use Rattle.arithmetic.specs.Sum.{sum}
 use Rattle.arithmetic.specs.Integer.{sumℤ}
 use Rattle.arithmetic.specs.Refusal.{refusal}
-use Rattle.arithmetic.specs.Table.{tab, rows}
+use Rattle.arithmetic.specs.Table.{tab, rows, appended}
 use Rattle.vertex_set.specs.Lowest.{lowest}
 use Rattle.rooted_tree.specs.Chain.{climb, below, depth}
 use Rattle.graph.specs.Graph.{joined, edgeLength}
@@ -29,6 +29,10 @@ use Rattle.optimal_transport.specs.Solve.{solveRefusal}
 use Rattle.little_endian.specs.LittleEndian.{two, byteOf}
 use Rattle.image.specs.Image.{sizeOk, sectionOk, layoutOk}
 use Rattle.image.specs.ImageChecks.{imageChecks}
+use Rattle.packed_image.specs.Packed.{header, packed}
+use Rattle.image_writer.specs.ImageBytes.{section, imageBytes}
+use Rattle.image_writer.specs.WriteImage.{tablesOk, numbersOk, writeChecks}
+use Rattle.image_rewriter.specs.Rewrite.{rewriteRefusal}
 use Rattle.host_record.specs.Record.{recordBytes}
 use Rattle.image_reader.specs.Read.{roomOk}
 use Rattle.image_answer.specs.ImageAnswer.{answerRefusal}
@@ -39,6 +43,7 @@ use Rattle.listing.specs.Listing.{listing, evaluatedListing}
 use Rattle.worked_cases.specs.Figures.{sames, certifies, holds, reads, every}
 use Rattle.worked_cases.specs.Cases.{image-b, cases, images}
 use Rattle.worked_cases.specs.Marks.{marked, mark-cases}
+use Rattle.worked_cases.specs.Images.{writes, rewrites, write-cases, rewrite-cases}
 use Rattle.worked_cases.specs.Weights.{turnsIn, turnsOut, weight-cases, amount-cases}
 
 pub cases-hold : every holds cases && every reads images ≡ true
@@ -59,3 +64,8 @@ marks-hold = refl
 pub weights-hold : every turnsIn weight-cases && every turnsOut amount-cases ≡ true
 unfolding all tab refusal ofBits toBits map inUnitInterval wholeGrains amountOf weightOf amountsRefusal weightsRefusal amountsOf weightsOf amountsTable weightsTable sames every turnsIn turnsOut
 weights-hold = refl
+
+-- and its writer of images
+pub images-written : every writes write-cases && every rewrites rewrite-cases ≡ true
+unfolding all sum tab rows appended refusal verticesOk listsFit sizeChecks two byteOf sizeOk sectionOk layoutOk imageChecks header packed section imageBytes tablesOk numbersOk writeChecks rewriteRefusal sames every writes rewrites
+images-written = refl

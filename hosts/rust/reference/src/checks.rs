@@ -27,7 +27,7 @@ pub(crate) fn refuse_if(number: u32, condition: bool) -> Result<(), u32> {
     }
 }
 
-fn number(bytes: &[u8]) -> u64 {
+pub(crate) fn number(bytes: &[u8]) -> u64 {
     bytes.iter().rev().fold(0, |value, &b| value * 256 + b as u64)
 }
 

@@ -6,6 +6,7 @@
 //! | [`problem`] | a graph, two measures, an optional spanning tree; the image format |
 //! | [`checks`] | the refusal numbers, by the table of the specification |
 //! | [`lists`] | the arguments of the calls over tables, and their refusals |
+//! | [`writer`] | the image that is written of such lists, and an image written anew |
 //! | [`weights`] | 32-bit floats and the grains that they stand for, from their bits |
 //! | [`tree`] | evaluation of a given spanning tree, word for word as defined |
 //! | [`flow`] | distances by Dijkstra, the least cost by successive shortest paths |
@@ -13,6 +14,7 @@
 //! | [`record`] | the host record, and the test that an answer is right |
 //! | [`random`] | random problems, valid and faulty, and damaged images |
 //! | [`random_lists`] | random arguments of the calls over tables |
+//! | [`random_writer`] | random arguments of the writer, and images with anything between their sections |
 //! | [`random_trees`] | spanning trees: best ones, nearly best ones, and those where descent stalls |
 //! | [`runs`] | how many cases a test runs, and from which seed |
 //!
@@ -26,10 +28,12 @@ pub mod problem;
 pub mod random;
 pub mod random_lists;
 pub mod random_trees;
+pub mod random_writer;
 pub mod record;
 pub mod runs;
 pub mod tree;
 pub mod weights;
+pub mod writer;
 
 pub use lists::Lists;
 pub use problem::{Edge, Layout, Problem, Tree};

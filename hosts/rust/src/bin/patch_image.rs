@@ -35,8 +35,6 @@ fn convert(source: &str, image: &str, best: bool) -> Result<(), String> {
         let answer = patch.run().map_err(|e| format!("{source}: {e}"))?;
         patch = patch.tree(answer.root, &answer.parents);
     }
-    let bytes = patch
-        .image()
-        .expect("a text has no number that an image cannot hold");
+    let bytes = patch.image().map_err(|e| format!("{source}: {e}"))?;
     fs::write(image, bytes).map_err(|e| format!("{image}: {e}"))
 }

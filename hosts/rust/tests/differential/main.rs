@@ -5,6 +5,9 @@
 //! | `images` | `mover_run` |
 //! | `tables` | distances by lists and by records, evaluating, judging, solving |
 //! | `reader` | `mover_read` |
+//! | `writer` | `mover_write_image` |
+//! | `one_place` | the same on patches that differ in one place |
+//! | `rewriter` | `mover_rewrite` |
 //! | `trees` | the tree by value |
 //! | `ancestors` | `mover_mark_ancestors` |
 //! | `weights` | `mover_to_amounts`, `mover_to_weights` |
@@ -19,13 +22,18 @@ mod ancestors;
 mod images;
 mod jobs;
 mod lent;
+mod one_place;
 mod reader;
+mod rewriter;
 mod spoils;
 mod tables;
 mod trees;
 mod weights;
+mod writer;
+mod wrong_rewriter;
 mod wrong_tables;
 mod wrong_weights;
+mod wrong_writer;
 
 fn pass<T>(result: Result<T, String>) -> T {
     result.unwrap_or_else(|complaint| panic!("{complaint}"))

@@ -1,19 +1,19 @@
--- `write_parents` meets its contract.
+-- `put_bytes` meets its contract.
 use Prim.Native.Nat.{_-_}
 use mathlib.Core.Path.{refl}
 use native.Mathlib.Omega.{arith}
 use Rattle.arithmetic.specs.Table.{at}
 use Rattle.little_endian.specs.LittleEndian.{fields}
 use Rattle.little_endian.proofs.Laws.Buffer.{Placing}
 use Rattle.little_endian.proofs.Laws.Byte.{section-none, section-more, section-end}
-use Rattle.host_record.proofs.write_parents.Statement.{statement}
-use Rattle.host_record.proofs.write_parents.Tie as tie
+use Rattle.little_endian.proofs.write.put_bytes.Statement.{statement}
+use Rattle.little_endian.proofs.write.put_bytes.Tie as tie
 
 abbrev Inv-loop : tie.InvT-loop
-Inv-loop n parents out₀ i₀ out i = Placing 0 n (λ i. fields 1 i (at parents)) out₀ i out
+Inv-loop n numbers out₀ i₀ out i = Placing 0 n (λ i. fields 1 i (at numbers)) out₀ i out
 
 abbrev μ-loop : tie.MeasureT-loop
-μ-loop n parents out₀ i₀ out i = n - i
+μ-loop n numbers out₀ i₀ out i = n - i
 
 loop-again : tie.Need-loop-again Inv-loop μ-loop
 loop-again c =
@@ -24,8 +24,8 @@ loop-again c =
 returns : tie.Need-returns Inv-loop μ-loop
 returns c = section-end _ _ (c .before .loop .inv) (c .loop-test .left)
 
-pub write-parents-spec : {M : Type 1} → statement M
-write-parents-spec =
+pub put-bytes-spec : {M : Type 1} → statement M
+put-bytes-spec =
     tie.close
     (tie.spec
     Inv-loop

@@ -1,0 +1,4 @@
+pub mod Readable
+pub mod ReadBack
+pub mod Again
+pub mod Rewritten

@@ -1,0 +1,2 @@
+pub mod SectionBytes
+pub mod Held

@@ -1,0 +1,3 @@
+pub mod ImageBytes
+pub mod WriteImage
+pub mod Steps

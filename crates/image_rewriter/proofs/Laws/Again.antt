@@ -43,7 +43,7 @@ module _ (s : List ℕ) (bytes : atMost 255 s ≡ true) (u : Lists) (reads : rea
   pub rewriting-keeps : (t t' : Lists) (k n m root tree : ℕ) → Read s t k n m root tree t' → Read (rewritten s) t k n m root tree t'
   rewriting-keeps t t' k n m root tree r = contents-read (formed fits) (back-same (same-back (held fits)) (read-contents form r))
 
-  -- in a buffer with room for it the image is accepted, and so is the result; "changes no byte"; it is never longer
+  -- in a buffer with room for it the image is accepted, and so is the result; "rewriting the result changes no byte"
   pub rewriting-again : (buffer : List ℕ) → length (rewritten s) ≤ length buffer
       → (rewriteRefusal s buffer ≡ 0) × (rewriteRefusal (rewritten s) buffer ≡ 0) × (rewritten (rewritten s) ≡ rewritten s)
   unfolding rewriteRefusal
@@ -54,5 +54,6 @@ module _ (s : List ℕ) (bytes : atMost 255 s ≡ true) (u : Lists) (reads : rea
         again,
       )
 
+  -- the result is never longer than the image
   pub rewriting-shorter : length (rewritten s) ≤ length s
   rewriting-shorter = never-longer form

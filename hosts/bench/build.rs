@@ -1,4 +1,4 @@
-//! Compiles the LEMON solver and links it.
+//! Compiles the LEMON solvers and links them.
 
 use std::env;
 use std::path::PathBuf;
@@ -10,15 +10,21 @@ fn run(command: &mut Command) {
 }
 
 fn main() {
-    println!("cargo:rerun-if-changed=src/lemon.cpp");
     println!("cargo:rerun-if-env-changed=CXX");
     let out = PathBuf::from(env::var("OUT_DIR").expect("set by cargo"));
-    let (object, archive) = (out.join("lemon.o"), out.join("liblemon_solver.a"));
     let compiler = env::var("CXX").unwrap_or_else(|_| "c++".into());
-    run(Command::new(compiler)
-        .args(["-std=c++14", "-O3", "-DNDEBUG", "-w", "-c", "src/lemon.cpp", "-o"])
-        .arg(&object));
-    run(Command::new("ar").arg("crs").arg(&archive).arg(&object));
+    let objects = ["lemon", "dijkstra"].map(|name| {
+        let (source, object) = (format!("src/{name}.cpp"), out.join(format!("{name}.o")));
+        println!("cargo:rerun-if-changed={source}");
+        run(Command::new(&compiler)
+            .args(["-std=c++14", "-O3", "-DNDEBUG", "-w", "-c", &source, "-o"])
+            .arg(&object));
+        object
+    });
+    run(Command::new("ar")
+        .arg("crs")
+        .arg(out.join("liblemon_solver.a"))
+        .args(&objects));
     println!("cargo:rustc-link-search=native={}", out.display());
     println!("cargo:rustc-link-lib=static=lemon_solver");
     println!("cargo:rustc-link-lib=stdc++");

@@ -1,7 +1,7 @@
 /* What the header promises and the example does not show: tables between guard places, every refusal number of every call with all
  * tables as lent, empty tables without an address, images at odd addresses, images written and rewritten against images that are built
  * here without the library, damaged images and trees, climbs in any order on any words, every amount as a weight and back, weights of
- * any bits, and the stack that a call uses.
+ * any bits, what is within reach and nearest against ways that are found here, and the stack that a call uses.
  * A line for each group, and "N passed, M failed" last. */
 #define _POSIX_C_SOURCE 200112L
 #include "mover.h"
@@ -289,6 +289,30 @@ static void check_empty_images(void) {
   expect(mover_rewrite(NULL, 0, NULL, 0, &length) == 11 && length == 0, "nothing at all", "mover_rewrite", (unsigned)length);
 }
 
+/* One vertex without edges, no painting, two vertices apart, nothing at all. */
+static void check_empty_brushes(void) {
+  const uint64_t amounts[2] = {7, 7};
+  uint64_t mask = 99;
+  uint32_t vertex = 99;
+  expect(mover_vertices_within(1, NULL, 0, NULL, 0, NULL, 0, 0, 0, &mask) == 0 && mask == 1, "no edges",
+         "mover_vertices_within", (unsigned)mask);
+  expect(mover_nearest_vertex(1, NULL, 0, NULL, 0, NULL, 0, 0, amounts, 1, &vertex) == 0 && vertex == 0, "no edges",
+         "mover_nearest_vertex", vertex);
+  vertex = 99;
+  expect(mover_nearest_vertex(1, NULL, 0, NULL, 0, NULL, 0, 0, NULL, 0, &vertex) == 2 && vertex == 0, "no painting",
+         "mover_nearest_vertex", vertex);
+  mask = vertex = 99;
+  expect(mover_vertices_within(2, NULL, 0, NULL, 0, NULL, 0, 1, 0, &mask) == 5 && mask == 0, "no edges, two vertices",
+         "mover_vertices_within", (unsigned)mask);
+  expect(mover_nearest_vertex(2, NULL, 0, NULL, 0, NULL, 0, 1, amounts, 2, &vertex) == 5 && vertex == 0,
+         "no edges, two vertices", "mover_nearest_vertex", vertex);
+  mask = vertex = 99;
+  expect(mover_vertices_within(0, NULL, 0, NULL, 0, NULL, 0, 0, 0, &mask) == 1 && mask == 0, "nothing at all",
+         "mover_vertices_within", (unsigned)mask);
+  expect(mover_nearest_vertex(0, NULL, 0, NULL, 0, NULL, 0, 0, NULL, 0, &vertex) == 1 && vertex == 0, "nothing at all",
+         "mover_nearest_vertex", vertex);
+}
+
 /* Tables of length 0 need no address. */
 static void check_empty(void) {
   uint64_t seven = 7, cost = 99;
@@ -315,6 +339,7 @@ static void check_empty(void) {
   expect(mover_to_amounts(&weight, 1, NULL, 0) == 2 && mover_to_weights(&cost, 1, NULL, 0) == 2, "no room", "mover_to_...", 0);
   expect(mover_run(NULL, 0, NULL, 0) == 11, "nothing at all", "mover_run", 0);
   check_empty_images();
+  check_empty_brushes();
   tree = mover_tree_new(3, 1, NULL, 0);
   expect(tree.n == 3 && tree.root == 1 && tree.parents[2] == 0 && mover_tree_parent(tree, 1) == 64, "no parents", "mover_tree_new", 0);
 }
@@ -1550,13 +1575,627 @@ static void check_weights(void) {
   check_all_amounts();
 }
 
+/* ---- brushes: the vertices within reach of a start, and the nearest one with paint. The start is a problem's
+ * root, the painting its mu. */
+
+/* What is known of a patch without the library: the number by which checks 1 to 5 refuse it, its painting left
+ * aside, and if that is 0 the least length of all ways from each vertex to each. */
+typedef struct known {
+  uint32_t number;
+  uint64_t least[64][64];
+} known;
+
+static const uint64_t apart = (uint64_t)1 << 40; /* longer than every way */
+
+/* The number of checks 1 to 4. */
+static uint32_t edges_number(const problem *p) {
+  size_t n = p->n, m = p->a_len, e;
+  if (n == 0 || n > 64) return 1;
+  if (m > 512 || p->b_len != m || p->lengths_len != m) return 2;
+  for (e = 0; e < m; e++) {
+    if (p->b[e] >= n || p->a[e] >= p->b[e]) return 3;
+    if (e > 0 && 64 * p->a[e] + p->b[e] <= 64 * p->a[e - 1] + p->b[e - 1]) return 3;
+  }
+  for (e = 0; e < m; e++)
+    if (p->lengths[e] > 65535) return 4;
+  return 0;
+}
+
+/* By Floyd and Warshall. */
+static void find_ways(const problem *p, uint64_t (*least)[64]) {
+  size_t x, y, z, e;
+  for (x = 0; x < p->n; x++)
+    for (y = 0; y < p->n; y++) least[x][y] = x == y ? 0 : apart;
+  for (e = 0; e < p->a_len; e++) least[p->a[e]][p->b[e]] = least[p->b[e]][p->a[e]] = p->lengths[e];
+  for (z = 0; z < p->n; z++)
+    for (x = 0; x < p->n; x++)
+      for (y = 0; y < p->n; y++)
+        if (least[x][z] + least[z][y] < least[x][y]) least[x][y] = least[x][z] + least[z][y];
+}
+
+/* Finds out what is known, and sees that the library's own distances are the same. */
+static void learn(const problem *p, known *k) {
+  static uint32_t out[4096];
+  size_t same = 0, x, y;
+  uint32_t number =
+      mover_distances(p->n, p->a, p->a_len, p->b, p->b_len, p->lengths, p->lengths_len, out, 4096);
+  k->number = edges_number(p);
+  if (k->number == 0) {
+    find_ways(p, k->least);
+    for (x = 0; x < p->n; x++)
+      if (k->least[0][x] == apart) k->number = 5;
+  }
+  expect(number == k->number, "the number of", "mover_distances", number);
+  if (number != MOVER_OK || k->number != 0) return;
+  for (x = 0; x < p->n; x++)
+    for (y = 0; y < p->n; y++) same += out[x * p->n + y] == k->least[x][y];
+  expect(same == p->n * p->n, "the same ways", p->name, (unsigned)same);
+}
+
+static uint32_t within_number(const problem *p, const known *k) {
+  if (k->number != 0) return k->number;
+  return p->root < p->n ? 0 : 17;
+}
+
+static uint32_t nearest_number(const problem *p, const known *k) {
+  uint64_t room = 16777216;
+  size_t v;
+  if (k->number == 1) return 1;
+  if (p->mu_len != p->n) return 2;
+  if (k->number != 0) return k->number;
+  for (v = 0; v < p->n; v++) {
+    if (p->mu[v] > room) return 6;
+    room -= p->mu[v];
+  }
+  return p->root < p->n ? 0 : 17;
+}
+
+static uint64_t word_within(const problem *p, const known *k, uint32_t reach) {
+  uint64_t word = 0;
+  size_t v;
+  for (v = 0; v < p->n; v++)
+    if (k->least[p->root][v] <= reach) word |= (uint64_t)1 << v;
+  return word;
+}
+
+/* From the last vertex down, so that the lowest of those equally near stays. */
+static uint32_t vertex_nearest(const problem *p, const known *k) {
+  const uint64_t *away = k->least[p->root];
+  uint32_t nearest = 64;
+  size_t v;
+  for (v = p->n; v-- > 0;)
+    if (p->mu[v] > 0 && (nearest == 64 || away[v] <= away[nearest])) nearest = (uint32_t)v;
+  return nearest;
+}
+
+/* What a call left: its number, and a single result of so many bytes from byte 16 on, amid guard places. */
+typedef struct single {
+  uint32_t number;
+  uint64_t places[5];
+} single;
+
+enum { SINGLE_GUARD = 0xc3 };
+
+/* Before the call, no bit of the result is as it is to be. */
+static void *lend_single(single *s, const void *wanted, size_t bytes) {
+  uint8_t *place = (uint8_t *)s->places + 16;
+  size_t i;
+  memset(s->places, SINGLE_GUARD, sizeof s->places);
+  for (i = 0; i < bytes; i++) place[i] = (uint8_t)~((const uint8_t *)wanted)[i];
+  return place;
+}
+
+/* What is not as wanted, or NULL. */
+static const char *wrong_in_single(const single *s, uint32_t number, const void *wanted, size_t bytes) {
+  uint8_t all[sizeof s->places];
+  memset(all, SINGLE_GUARD, sizeof all);
+  memcpy(all + 16, wanted, bytes);
+  if (s->number != number) return "the number";
+  if (memcmp((const uint8_t *)s->places + 16, wanted, bytes) != 0) return "the result";
+  return memcmp(s->places, all, sizeof all) == 0 ? NULL : "the places round it";
+}
+
+static uint32_t ask_within(const problem *p, uint32_t reach, void *mask) {
+  return mover_vertices_within(p->n, p->a, p->a_len, p->b, p->b_len, p->lengths, p->lengths_len, p->root, reach,
+                               (uint64_t *)mask);
+}
+
+static uint32_t ask_nearest(const problem *p, void *vertex) {
+  return mover_nearest_vertex(p->n, p->a, p->a_len, p->b, p->b_len, p->lengths, p->lengths_len, p->root, p->mu,
+                              p->mu_len, (uint32_t *)vertex);
+}
+
+/* One call each, on a patch that is known; they return the number that is wanted. After a refusal the result is
+ * to be 0. */
+static uint32_t check_within(const char *name, const problem *p, const known *k, uint32_t reach) {
+  static problem before;
+  single s;
+  uint32_t wanted = within_number(p, k);
+  uint64_t word = wanted == MOVER_OK ? word_within(p, k, reach) : 0;
+  const char *wrong;
+  void *mask = lend_single(&s, &word, 8);
+  memcpy(&before, p, sizeof before);
+  s.number = ask_within(p, reach, mask);
+  expect(!memcmp(&before, p, sizeof before), "what was given", name, s.number);
+  wrong = wrong_in_single(&s, wanted, &word, 8);
+  expect(wrong == NULL, wrong ? wrong : "", name, s.number);
+  return wanted;
+}
+
+static uint32_t check_nearest(const char *name, const problem *p, const known *k) {
+  static problem before;
+  single s;
+  uint32_t wanted = nearest_number(p, k), answer = wanted == MOVER_OK ? vertex_nearest(p, k) : 0;
+  const char *wrong;
+  void *vertex = lend_single(&s, &answer, 4);
+  memcpy(&before, p, sizeof before);
+  s.number = ask_nearest(p, vertex);
+  expect(!memcmp(&before, p, sizeof before), "what was given", name, s.number);
+  wrong = wrong_in_single(&s, wanted, &answer, 4);
+  expect(wrong == NULL, wrong ? wrong : "", name, s.number);
+  return wanted;
+}
+
+/* Every problem with each of its paintings, as long as is asked, longer and shorter, from each vertex and from
+ * what is none. */
+static void check_asked_problems(void) {
+  static const uint32_t reaches[5] = {0, 1, 2, 5, UINT32_MAX};
+  static problem p;
+  static known k;
+  size_t i, j, start;
+  for (i = 0; i < 2 * PROBLEMS; i++) {
+    p = problems[i / 2];
+    if (i % 2 == 1) memcpy(p.mu, p.nu, sizeof p.mu);
+    learn(&p, &k);
+    for (start = 0; start < p.n + 2; start++) {
+      uint32_t end = start < p.n ? 0 : 17, edges = up_to(p.number, 5), paint = p.mu[0] > 16777216 ? 6 : 0;
+      p.root = start <= p.n ? start : SIZE_MAX;
+      for (j = 0; j < 5; j++)
+        expect(check_within(p.name, &p, &k, reaches[j]) == (edges ? edges : end), p.name, "within", reaches[j]);
+      expect(check_nearest(p.name, &p, &k) == (edges ? edges : paint ? paint : end), p.name, "nearest", end);
+      p.mu_len++;
+      expect(check_nearest(p.name, &p, &k) == (edges == 1 ? 1 : 2), p.name, "a long painting", end);
+      p.mu_len = p.n / 2;
+      expect(check_nearest(p.name, &p, &k) == (edges == 1 ? 1 : 2), p.name, "a short painting", end);
+      p.mu_len = p.n;
+    }
+  }
+}
+
+/* A long edge (0, 1) beside the way round by vertex 2, a seam (2, 3) and an edge (3, 4). */
+static const problem way_round = {
+    "the way round", 0, 5, 5, 5, 5, {0, 0, 1, 2, 3}, {1, 2, 2, 3, 4}, {10, 3, 3, 0, 7}, 5, 5, {0}, {0}, 0, 5, {0},
+};
+
+/* Start, reach, the vertices within. */
+static const struct reached {
+  size_t start;
+  uint32_t reach;
+  uint64_t mask;
+} reached[] = {
+    {0, 0, 0x01},  {0, 2, 0x01},     {0, 3, 0x0d},          {0, 5, 0x0d},  {0, 6, 0x0f}, {0, 9, 0x0f},
+    {0, 10, 0x1f}, {0, 65536, 0x1f}, {0, UINT32_MAX, 0x1f}, {1, 0, 0x02},  {1, 2, 0x02}, {1, 3, 0x0e},
+    {1, 5, 0x0e},  {1, 6, 0x0f},     {1, 9, 0x0f},          {1, 10, 0x1f}, {2, 0, 0x0c}, {3, 0, 0x0c},
+    {3, 2, 0x0c},  {3, 3, 0x0f},     {3, 6, 0x0f},          {3, 7, 0x1f},  {4, 0, 0x10}, {4, 6, 0x10},
+    {4, 7, 0x1c},  {4, 9, 0x1c},     {4, 10, 0x1f},
+};
+
+/* Start, the vertices with paint, the nearest of them. */
+static const struct found {
+  size_t start;
+  uint64_t painted;
+  uint32_t vertex;
+} found[] = {
+    {0, 0x00, 64}, {4, 0x00, 64}, {0, 0x01, 0}, {0, 0x1f, 0}, {0, 0x1e, 2}, {0, 0x18, 3}, {0, 0x12, 1},
+    {0, 0x10, 4},  {1, 0x1d, 2},  {1, 0x11, 0}, {2, 0x1b, 3}, {2, 0x1f, 2}, {3, 0x1f, 2}, {3, 0x1b, 3},
+    {3, 0x13, 0},  {3, 0x12, 1},  {4, 0x1f, 4}, {4, 0x0f, 2}, {4, 0x03, 0}, {4, 0x02, 1},
+};
+
+/* Answers told by hand; also those that are found here must be so. */
+static void check_told(void) {
+  static known k;
+  problem p = way_round;
+  size_t i, v;
+  expect(MOVER_NO_VERTEX == 64, "MOVER_NO_VERTEX", "is", MOVER_NO_VERTEX);
+  learn(&p, &k);
+  for (i = 0; i < sizeof reached / sizeof reached[0]; i++) {
+    p.root = reached[i].start;
+    check_within(p.name, &p, &k, reached[i].reach);
+    expect(word_within(&p, &k, reached[i].reach) == reached[i].mask, "a word told", p.name, (unsigned)i);
+  }
+  for (i = 0; i < sizeof found / sizeof found[0]; i++) {
+    p.root = found[i].start;
+    for (v = 0; v < 5; v++) p.mu[v] = (found[i].painted >> v & 1) * (1 + 1000 * v);
+    check_nearest(p.name, &p, &k);
+    expect(vertex_nearest(&p, &k) == found[i].vertex, "a vertex told", p.name, (unsigned)i);
+  }
+}
+
+/* Every number at its bound: 64 vertices, 512 edges, each 65,535 long, and a total of 16,777,216. Vertex 63
+ * hangs on the edge (0, 63) alone, which is edge HANGS; a path through the others and edges beside it make up
+ * the rest. */
+enum { HANGS = 9, SHARE = 16777216 / 64 };
+
+static void fill_bounds(problem *p) {
+  size_t x, y, m = 0;
+  memset(p, 0, sizeof *p);
+  p->name = "every number at its bound";
+  p->n = p->mu_len = 64;
+  for (x = 0; x < 64; x++) {
+    p->mu[x] = SHARE;
+    for (y = x + 1; y < 64; y++) {
+      if (x == 0 ? y > 9 && y < 63 : y > x + 9 || y == 63) continue;
+      if (y > x + 1 && y < 63 && m + 61 - x >= 512) continue; /* leave room for the path */
+      p->a[m] = (uint32_t)x;
+      p->b[m] = (uint32_t)y;
+      p->lengths[m++] = 65535;
+    }
+  }
+  p->a_len = p->b_len = p->lengths_len = m;
+  p->mu[64] = p->mu[65] = UINT64_MAX; /* no one looks at these */
+  expect(m == 512 && p->b[HANGS] == 63, p->name, "edges", (unsigned)m);
+}
+
+/* One of these numbers changed, at one place or EVERY place of its list, and what the calls then return. */
+enum { EVERY = 1000 };
+
+static const struct change {
+  const char *name;
+  field where;
+  size_t place;
+  uint64_t value;
+  uint32_t within, nearest;
+} changes[] = {
+    {"n 0", AT_N, 0, 0, 1, 1},
+    {"n 65", AT_N, 0, 65, 1, 1},
+    {"n 256 + 64", AT_N, 0, 320, 1, 1},
+    {"n 2^32 + 64", AT_N, 0, 4294967360u, 1, 1},
+    {"n SIZE_MAX", AT_N, 0, SIZE_MAX, 1, 1},
+    {"no a", A_LEN, 0, 0, 2, 2},
+    {"a short", A_LEN, 0, 511, 2, 2},
+    {"a long", A_LEN, 0, 513, 2, 2},
+    {"no b", B_LEN, 0, 0, 2, 2},
+    {"b short", B_LEN, 0, 511, 2, 2},
+    {"b long", B_LEN, 0, 513, 2, 2},
+    {"no lengths", LENGTHS_LEN, 0, 0, 2, 2},
+    {"lengths short", LENGTHS_LEN, 0, 511, 2, 2},
+    {"lengths long", LENGTHS_LEN, 0, 513, 2, 2},
+    {"no amounts", MU_LEN, 0, 0, 0, 2},
+    {"amounts short", MU_LEN, 0, 63, 0, 2},
+    {"amounts long", MU_LEN, 0, 65, 0, 2},
+    {"an end a 63", AT_A, EVERY, 63, 3, 3},
+    {"an end a UINT32_MAX", AT_A, EVERY, UINT32_MAX, 3, 3},
+    {"an end b 0", AT_B, EVERY, 0, 3, 3},
+    {"an end b 64", AT_B, EVERY, 64, 3, 3},
+    {"an end b UINT32_MAX", AT_B, EVERY, UINT32_MAX, 3, 3},
+    {"vertex 63 alone", AT_B, HANGS, 62, 5, 5},
+    {"a length 0", AT_LENGTHS, EVERY, 0, 0, 0},
+    {"a length 65536", AT_LENGTHS, EVERY, 65536, 4, 4},
+    {"a length UINT32_MAX", AT_LENGTHS, EVERY, UINT32_MAX, 4, 4},
+    {"an amount 0", AT_MU, EVERY, 0, 0, 0},
+    {"one grain less", AT_MU, EVERY, SHARE - 1, 0, 0},
+    {"one grain more", AT_MU, EVERY, SHARE + 1, 0, 6},
+    {"an amount 2^32", AT_MU, EVERY, 4294967296u, 0, 6},
+    {"a total of 2^64", AT_MU, EVERY, UINT64_MAX - 63 * SHARE + 1, 0, 6},
+    {"an amount UINT64_MAX", AT_MU, EVERY, UINT64_MAX, 0, 6},
+    {"start 63", AT_ROOT, 0, 63, 0, 0},
+    {"start 64", AT_ROOT, 0, 64, 17, 17},
+    {"start 65", AT_ROOT, 0, 65, 17, 17},
+    {"start 256", AT_ROOT, 0, 256, 17, 17},
+    {"start 2^32", AT_ROOT, 0, 4294967296u, 17, 17},
+    {"start SIZE_MAX", AT_ROOT, 0, SIZE_MAX, 17, 17},
+};
+enum { CHANGES = sizeof changes / sizeof changes[0] };
+
+static void check_changed(const char *name, const char *other, const problem *p, uint32_t within,
+                          uint32_t nearest) {
+  static known k;
+  learn(p, &k);
+  expect(check_within(name, p, &k, 65535) == within, name, other, within);
+  expect(check_within(name, p, &k, UINT32_MAX) == within, name, other, within);
+  expect(check_nearest(name, p, &k) == nearest, name, other, nearest);
+}
+
+/* Each change, at every place of a list. */
+static void check_changes(void) {
+  static problem bounds, p;
+  size_t k, i;
+  fill_bounds(&bounds);
+  check_changed(bounds.name, "", &bounds, 0, 0);
+  for (k = 0; k < CHANGES; k++) {
+    const struct change *c = &changes[k];
+    size_t first = c->place == EVERY ? 0 : c->place, end = c->place == EVERY ? places_of(c->where) : first + 1;
+    for (i = first; i < end; i++) {
+      p = bounds;
+      set_field(&p, c->where, i, c->value);
+      check_changed(c->name, "alone", &p, c->within, c->nearest);
+    }
+  }
+}
+
+/* Each two changes in one, the latter at the end of its list: the order of the checks is that of their numbers.
+ * Each change with 513 edges. */
+static void check_two_changes(void) {
+  static problem bounds, p;
+  size_t k, l;
+  fill_bounds(&bounds);
+  for (k = 0; k < CHANGES; k++) {
+    const struct change *c = &changes[k], *d;
+    for (l = 0; l < CHANGES; l++) {
+      d = &changes[l];
+      if (d->where == c->where) continue;
+      p = bounds;
+      set_field(&p, c->where, c->place == EVERY ? 0 : c->place, c->value);
+      set_field(&p, d->where, d->place == EVERY ? places_of(d->where) - 1 : d->place, d->value);
+      check_changed(c->name, d->name, &p, first_of(c->within, d->within), first_of(c->nearest, d->nearest));
+    }
+    p = bounds;
+    p.a_len = p.b_len = p.lengths_len = 513;
+    if (c->where != A_LEN && c->where != B_LEN && c->where != LENGTHS_LEN)
+      set_field(&p, c->where, c->place == EVERY ? 0 : c->place, c->value);
+    check_changed(c->name, "513 edges", &p, first_of(c->within, 2), first_of(c->nearest, 2));
+  }
+}
+
+/* Changes at more than one place: an edge twice, two edges exchanged behind a length of 65,536, a vertex gone
+ * from all but the edges, no edges, and a total of 2^64. */
+static void check_more_changes(void) {
+  static problem bounds, p;
+  size_t e, v;
+  fill_bounds(&bounds);
+  for (e = 0; e + 1 < 512; e++) {
+    p = bounds;
+    p.a[e] = p.a[e + 1];
+    p.b[e] = p.b[e + 1];
+    check_changed("an edge twice", "", &p, 3, 3);
+    p.a[e + 1] = bounds.a[e];
+    p.b[e + 1] = bounds.b[e];
+    p.lengths[0] = 65536;
+    check_changed("two edges exchanged", "", &p, 3, 3);
+  }
+  p = bounds;
+  p.n = p.mu_len = 63;
+  check_changed("n 63", "", &p, 3, 3);
+  p = bounds;
+  p.a_len = p.b_len = p.lengths_len = 0;
+  check_changed("no edges", "", &p, 5, 5);
+  p = bounds;
+  for (v = 0; v < 64; v++) p.mu[v] = (uint64_t)1 << 58;
+  check_changed("a total of 2^64 together", "", &p, 0, 6);
+  p.root = SIZE_MAX;
+  check_changed("a total of 2^64 together", "no start", &p, 17, 6);
+  p.b[HANGS] = 62;
+  check_changed("a total of 2^64 together", "no start, vertex 63 alone", &p, 5, 5);
+}
+
+/* The longest ways: a line of all vertices, each edge 65,535 long. From some starts, each distance and one
+ * less, and paint at one end, both ends or nowhere. */
+static void check_longest(void) {
+  static problem p;
+  static known k;
+  size_t i, v;
+  memset(&p, 0, sizeof p);
+  p.name = "a line";
+  p.n = p.mu_len = 64;
+  p.a_len = p.b_len = p.lengths_len = 63;
+  for (i = 0; i < 63; i++) {
+    p.a[i] = (uint32_t)i;
+    p.b[i] = (uint32_t)i + 1;
+    p.lengths[i] = 65535;
+  }
+  learn(&p, &k);
+  expect(k.least[0][63] == 4128705, "the longest way", p.name, (unsigned)k.least[0][63]);
+  for (p.root = 0; p.root < 64; p.root += 7) {
+    for (v = 0; v < 64; v++) {
+      uint32_t away = (uint32_t)k.least[p.root][v];
+      check_within(p.name, &p, &k, away);
+      check_within(p.name, &p, &k, away - 1); /* UINT32_MAX at the start itself */
+    }
+    for (i = 0; i < 4; i++) {
+      p.mu[0] = i % 2 * 16777215;
+      p.mu[63] = i / 2;
+      check_nearest(p.name, &p, &k);
+    }
+  }
+}
+
+/* Which vertices share an edge: those of a tree, of a tree with a few edges more or up to 512, or of a grid, the
+ * vertices in any order. */
+static void draw_joined(size_t n, uint8_t (*joined)[64]) {
+  uint32_t order[64], parents[64];
+  size_t shape = draw_below(4), width = 1 + draw_below(n), more = shape == 1 ? draw_below(n) : 449, i;
+  memset(joined, 0, 64 * sizeof *joined);
+  if (shape == 3) {
+    draw_order(n, order);
+    for (i = 0; i < n; i++) {
+      if ((i + 1) % width != 0 && i + 1 < n) joined[order[i]][order[i + 1]] = 1;
+      if (i + width < n) joined[order[i]][order[i + width]] = 1;
+    }
+    return;
+  }
+  draw_tree(n, parents);
+  for (i = 0; i < n; i++) joined[i][parents[i]] = 1;
+  if (shape == 0) return;
+  for (i = 0; i < more; i++) joined[draw_below(n)][draw_below(n)] = 1;
+}
+
+/* Any length, one of few, always the same, or a short or a long one, so that many edges are longer than the
+ * way round. */
+static uint32_t draw_length(size_t kind, uint32_t same) {
+  if (kind == 0) return (uint32_t)draw_below(65536);
+  if (kind == 1) return (uint32_t)draw_below(4);
+  if (kind == 2) return same;
+  return (uint32_t)(draw_below(2) == 0 ? draw_below(3) : 65535 - draw_below(3));
+}
+
+/* A sound patch without a painting. What stands past its lists would change every answer. */
+static void draw_patch(problem *p) {
+  static const uint32_t lengths[4] = {0, 1, 1000, 65535};
+  uint8_t joined[64][64];
+  size_t kind = draw_below(4), x, y, m = 0, i;
+  uint32_t same = lengths[draw_below(4)];
+  memset(p, 0, sizeof *p);
+  p->name = "any patch";
+  p->n = p->mu_len = draw_below(8) == 0 ? 64 - draw_below(32) : 1 + draw_below(12);
+  draw_joined(p->n, joined);
+  for (x = 0; x < p->n; x++)
+    for (y = x + 1; y < p->n; y++) {
+      if (!joined[x][y] && !joined[y][x]) continue;
+      p->a[m] = (uint32_t)x;
+      p->b[m] = (uint32_t)y;
+      p->lengths[m++] = draw_length(kind, same);
+    }
+  p->a_len = p->b_len = p->lengths_len = m;
+  for (i = m; i < E; i++) p->b[i] = (uint32_t)p->n - 1;
+  for (i = p->n; i < V; i++) p->mu[i] = UINT64_MAX;
+}
+
+/* No paint, some or paint everywhere, often a grain here and there, or not at the start; now and then a total
+ * about the bound. */
+static void draw_painting(problem *p, size_t n) {
+  size_t often = draw_below(5), kind = draw_below(4), v;
+  for (v = 0; v < n; v++) {
+    p->mu[v] = 0;
+    if (often == 0 || draw_below(often) != 0) continue;
+    p->mu[v] = kind == 0 ? 1 : 1 + draw_below(16777216 / n);
+  }
+  if (p->root < n && draw_below(2) == 0) p->mu[p->root] = 0;
+  if (draw_below(8) == 0) p->mu[draw_below(n)] = 16777216 + draw_below(3) - 1;
+}
+
+/* A vertex more that hangs on nothing, an edge less, or a change as above in any place. */
+static void damage(problem *p) {
+  const struct change *c = &changes[draw_below(CHANGES)];
+  size_t kind = draw_below(4), e;
+  if (kind == 0) p->n = ++p->mu_len;
+  if (kind == 1 && p->lengths_len > 0) {
+    p->a_len = p->b_len = --p->lengths_len;
+    for (e = draw_below(p->a_len + 1); e < p->a_len; e++) {
+      p->a[e] = p->a[e + 1];
+      p->b[e] = p->b[e + 1];
+    }
+  }
+  if (kind > 1) set_field(p, c->where, draw_below(p->n < V ? p->n + 1 : 1), c->value);
+}
+
+/* What came up: the numbers of both calls, paint equally near, edges longer than the way round, seams. */
+typedef struct tally {
+  unsigned within[18], nearest[18], ties, detours, seams;
+} tally;
+
+static void count_edges(const problem *p, const known *k, tally *t) {
+  size_t e;
+  for (e = 0; e < p->a_len && k->number == 0; e++) {
+    t->detours += p->lengths[e] > k->least[p->a[e]][p->b[e]];
+    t->seams += p->lengths[e] == 0;
+  }
+}
+
+static void count_ties(const problem *p, const known *k, tally *t) {
+  size_t nearest = vertex_nearest(p, k), v;
+  for (v = nearest + 1; v < p->n; v++)
+    if (p->mu[v] > 0 && k->least[p->root][v] == k->least[p->root][nearest]) {
+      t->ties++;
+      return;
+    }
+}
+
+/* From one start: reaches about the distance of some vertex, least or greatest, and any; three paintings. n is
+ * the number of vertices before any damage. */
+static void check_drawn_start(problem *p, const known *k, size_t n, tally *t) {
+  uint64_t away = k->number == 0 && p->root < p->n ? k->least[p->root][draw_below(n)] : draw_below(1000);
+  size_t i;
+  for (i = 0; i < 3; i++) t->within[check_within(p->name, p, k, (uint32_t)(away + i - 1))]++;
+  t->within[check_within(p->name, p, k, draw_below(2) == 0 ? 0 : UINT32_MAX)]++;
+  t->within[check_within(p->name, p, k, (uint32_t)(draw() >> 32 >> draw_below(32)))]++;
+  for (i = 0; i < 3; i++) {
+    uint32_t number;
+    draw_painting(p, n);
+    number = check_nearest(p->name, p, k);
+    t->nearest[number]++;
+    if (number == MOVER_OK) count_ties(p, k, t);
+  }
+}
+
+/* Any patches, one in three of them damaged once or twice, each from some vertices and from what is none. */
+static void check_drawn_patches(void) {
+  static const uint32_t numbers[8] = {0, 1, 2, 3, 4, 5, 6, 17};
+  static problem p;
+  static known k;
+  tally t = {{0}, {0}, 0, 0, 0};
+  size_t round, count, n, i;
+  for (round = 0; round < 3000; round++) {
+    draw_patch(&p);
+    n = p.n;
+    for (count = draw_below(3) == 0 ? 1 + draw_below(2) : 0; count > 0; count--) damage(&p);
+    learn(&p, &k);
+    count_edges(&p, &k, &t);
+    for (i = 0; i < 4; i++) {
+      p.root = i < 3 ? draw_below(n) : p.n + draw_below(2) * draw_below(300);
+      check_drawn_start(&p, &k, n, &t);
+    }
+  }
+  for (i = 0; i < 8; i++) {
+    expect(t.within[numbers[i]] > 100 || numbers[i] == 6, "every number", "within", t.within[numbers[i]]);
+    expect(t.nearest[numbers[i]] > 100, "every number", "nearest", t.nearest[numbers[i]]);
+  }
+  expect(t.ties > 3000 && t.detours > 3000 && t.seams > 3000, "ties, ways round and seams,", "ties", t.ties);
+}
+
+/* A right answer, spoiled on purpose: each bit of the result and of the places round it, the number, a result
+ * that is not written. */
+static void check_spoiled_single(single *s, uint32_t number, const void *wanted, size_t bytes) {
+  uint8_t *places = (uint8_t *)s->places;
+  size_t i;
+  expect(wrong_in_single(s, number, wanted, bytes) == NULL, "a right answer", "bytes", (unsigned)bytes);
+  for (i = 0; i < 8 * sizeof s->places; i++) {
+    places[i / 8] ^= (uint8_t)(1 << i % 8);
+    expect(wrong_in_single(s, number, wanted, bytes) != NULL, "a spoiled bit", "at", (unsigned)i);
+    places[i / 8] ^= (uint8_t)(1 << i % 8);
+  }
+  expect(wrong_in_single(s, number + 1, wanted, bytes) != NULL, "another number", "bytes", (unsigned)bytes);
+  lend_single(s, wanted, bytes);
+  expect(wrong_in_single(s, number, wanted, bytes) != NULL, "nothing written", "bytes", (unsigned)bytes);
+}
+
+static void check_spoiled_answers(void) {
+  const uint64_t word = 0x0d, none = 0;
+  const uint32_t vertex = 64;
+  problem p = way_round;
+  single s;
+  void *place = lend_single(&s, &word, 8);
+  s.number = ask_within(&p, 3, place);
+  check_spoiled_single(&s, MOVER_OK, &word, 8);
+  place = lend_single(&s, &vertex, 4);
+  s.number = ask_nearest(&p, place);
+  check_spoiled_single(&s, MOVER_OK, &vertex, 4);
+  p.root = 5;
+  place = lend_single(&s, &none, 8);
+  s.number = ask_within(&p, 3, place);
+  check_spoiled_single(&s, 17, &none, 8);
+  place = lend_single(&s, &none, 4);
+  s.number = ask_nearest(&p, place);
+  check_spoiled_single(&s, 17, &none, 4);
+}
+
+static void check_brushes(void) {
+  check_told();
+  check_asked_problems();
+  check_changes();
+  check_two_changes();
+  check_more_changes();
+  check_longest();
+  check_drawn_patches();
+  check_spoiled_answers();
+}
+
 /* Every number but 14 has a text of its own. */
 static void check_texts(void) {
   const char *none = mover_refusal_text(UINT32_MAX);
   uint32_t k, l;
-  for (k = 0; k < 17; k++)
+  for (k = 0; k < 18; k++)
     for (l = 0; l < k; l++) expect(strcmp(mover_refusal_text(k), mover_refusal_text(l)) != 0, "a text", "number", k);
-  for (k = 0; k < 20; k++) expect(!strcmp(mover_refusal_text(k), none) == (k == 14 || k > 16), "no text", "number", k);
+  for (k = 0; k < 20; k++) expect(!strcmp(mover_refusal_text(k), none) == (k == 14 || k > 17), "no text", "number", k);
 }
 
 /* ---- the stack */
@@ -1637,6 +2276,16 @@ static uint32_t call_mark_ancestors(void) {
   return mover_mark_ancestors(64, 0, patch.parents, 64, 63, masks, 64);
 }
 
+static uint32_t call_vertices_within(void) {
+  uint64_t mask;
+  return mover_vertices_within(64, patch.a, 512, patch.b, 512, patch.lengths, 512, 63, UINT32_MAX, &mask);
+}
+
+static uint32_t call_nearest_vertex(void) {
+  uint32_t vertex;
+  return mover_nearest_vertex(64, patch.a, 512, patch.b, 512, patch.lengths, 512, 63, patch.mu, 64, &vertex);
+}
+
 static uint32_t call_read(void) {
   static uint32_t a[512], b[512], lengths[512], parents[64];
   static uint64_t mu[64], nu[64];
@@ -1687,6 +2336,8 @@ static const struct use {
     {"mover_is_optimal", call_is_optimal, MOVER_STACK_IS_OPTIMAL},
     {"mover_solve", call_solve, MOVER_STACK_SOLVE},
     {"mover_mark_ancestors", call_mark_ancestors, MOVER_STACK_MARK_ANCESTORS},
+    {"mover_vertices_within", call_vertices_within, MOVER_STACK_VERTICES_WITHIN},
+    {"mover_nearest_vertex", call_nearest_vertex, MOVER_STACK_NEAREST_VERTEX},
     {"mover_read", call_read, MOVER_STACK_READ},
     {"mover_write_image", call_write_image, MOVER_STACK_WRITE_IMAGE},
     {"mover_rewrite", call_rewrite, MOVER_STACK_REWRITE},
@@ -1777,7 +2428,8 @@ int main(void) {
       {"accepted and refused problems", check_problems}, {"figures and long tables", check_figures}, {"empty tables", check_empty},
       {"the reader", check_reader},                      {"the entry", check_run},                   {"the writer of images", check_writer},
       {"the rewriter", check_rewriter},                  {"trees", check_trees},                     {"climbs", check_climbs},
-      {"weights", check_weights},                        {"texts", check_texts},                     {"stack", check_stack},
+      {"weights", check_weights},                        {"brushes", check_brushes},                 {"texts", check_texts},
+      {"stack", check_stack},
   };
   unsigned passed = 0, failed = 0;
   size_t k;

@@ -1,5 +1,5 @@
 /* Every call on one patch: distances, the best answer, a given tree and whether it is best, the tree's methods, climbs up it, the same
- * by an image, which is written, rewritten, read and run, a painting as weights, and a refusal. */
+ * by an image, which is written, rewritten, read and run, a painting as weights, a brush with and without a seam, and a refusal. */
 #include "mover.h"
 
 #include <inttypes.h>
@@ -194,6 +194,36 @@ static void weights(void) {
   refused(mover_to_amounts(&tenth, 1, amounts, N));
 }
 
+/* A brush on a vertex: what it reaches, and where the nearest paint is. */
+static void brush(const uint32_t *edge_lengths, size_t start, const uint64_t *painted) {
+  uint64_t within, farther;
+  uint32_t vertex;
+  uint32_t number = mover_vertices_within(N, a, M, b, M, edge_lengths, M, start, 200, &within);
+  if (number == MOVER_OK) number = mover_vertices_within(N, a, M, b, M, edge_lengths, M, start, 205, &farther);
+  if (number == MOVER_OK) number = mover_nearest_vertex(N, a, M, b, M, edge_lengths, M, start, painted, N, &vertex);
+  if (number != MOVER_OK) {
+    refused(number);
+    return;
+  }
+  printf("  within 200: 0x%02" PRIx64 ", within 205: 0x%02" PRIx64, within, farther);
+  if (vertex == MOVER_NO_VERTEX)
+    printf(", no paint\n");
+  else
+    printf(", nearest paint at %" PRIu32 "\n", vertex);
+}
+
+/* On vertex 2, then with the edge to vertex 5 a seam: what is near to 5 is now as near to 2. */
+static void brushes(void) {
+  static const uint64_t painted[N] = {700, 0, 0, 200, 0, 0}, clean[N] = {0};
+  uint32_t sewn[M];
+  memcpy(sewn, lengths, sizeof sewn);
+  sewn[5] = 0;
+  brush(lengths, 2, painted);
+  brush(sewn, 2, painted);
+  brush(sewn, 2, clean);
+  brush(sewn, N, painted);
+}
+
 int main(void) {
   static const uint64_t unequal[N] = {0, 0, 0, 0, 0, 999};
   size_t e;
@@ -213,6 +243,8 @@ int main(void) {
   by_image();
   printf("a painting as weights\n");
   weights();
+  printf("a brush on vertex 2\n");
+  brushes();
   printf("unequal totals\n");
   best(before, unequal);
   return 0;

@@ -9,6 +9,7 @@
  * and amounts weights by calls of their own.
  * An image holds a graph, two measures and, if there is one, a tree in bytes. Calls write, read and rewrite
  * images; what is equal is written as equal bytes, for hosts that compare files.
+ * Brushes ask which vertices lie within a reach of one, and which vertex with paint is nearest to it.
  *
  * Link one of two static archives, not both, for x86-64 Linux and its System V calling convention:
  *
@@ -23,7 +24,7 @@
  * - No input is out of bounds: what fails one of a call's checks is refused by a number.
  * - A call returns MOVER_OK and fills its answer tables, or returns the number of the first check that
  *   fails, leaves every table as it was, and writes 0 through each pointer to a single result (cost,
- *   moves, optimal, n, m, root, tree, length).
+ *   moves, optimal, mask, vertex, n, m, root, tree, length).
  * - A table is a pointer and then a length, which counts elements. The pointer must be valid for that
  *   many; with length 0 it may be NULL. A byte buffer may stand at any address, a table of numbers must
  *   be aligned as its type asks. A pointer to a single result is not NULL.
@@ -42,12 +43,13 @@
 #include <stddef.h>
 #include <stdint.h>
 
-#define MOVER_VERSION 300 /* 0.3.0: major * 10000 + minor * 100 + patch */
+#define MOVER_VERSION 301 /* 0.3.1: major * 10000 + minor * 100 + patch */
 
 #define MOVER_MAX_VERTICES 64
 #define MOVER_MAX_EDGES 512
 #define MOVER_MAX_LENGTH 65535
 #define MOVER_MAX_TOTAL 16777216
+#define MOVER_NO_VERTEX 64 /* what stands for no vertex: mover_nearest_vertex, mover_tree_parent */
 
 /* Bytes of stack that each call uses at most, whatever it is given: what was measured, and room for the
  * dynamic linker, which may look up memcpy or memset at the first call. A thread has needs of its own
@@ -59,6 +61,8 @@
 #define MOVER_STACK_IS_OPTIMAL 32768
 #define MOVER_STACK_SOLVE 16384
 #define MOVER_STACK_MARK_ANCESTORS 8192
+#define MOVER_STACK_VERTICES_WITHIN 16384
+#define MOVER_STACK_NEAREST_VERTEX 16384
 #define MOVER_STACK_READ 8192
 #define MOVER_STACK_WRITE_IMAGE 8192
 #define MOVER_STACK_REWRITE 16384
@@ -72,14 +76,15 @@ extern "C" {
 #endif
 
 /* The numbers that calls return. Checks run in the order 11, 12, 13 and then 1 to 10; each call says where
- * it stops. mover_write_image has 1, 2 and 13, in this order, and the calls on weights 2, 15 and 16. The
- * first check that fails gives the number. No call returns 14. */
+ * it stops. mover_write_image has 1, 2 and 13, in this order, the calls on weights 2, 15 and 16, and the
+ * calls from a start vertex end with 17, after 5 or 6. The first check that fails gives the number. No call
+ * returns 14. */
 enum {
   MOVER_OK = 0,
   MOVER_REFUSED_VERTEX_COUNT = 1,    /* n is 0 or above 64 */
   MOVER_REFUSED_TABLE_SIZE = 2,      /* there are more than 512 edges, the edge lists are unequal in length,
-                                        mu, nu or given parents are not n long, or an answer table or the
-                                        buffer for a record or an image is too short */
+                                        a painting (mu, nu, amounts) or given parents are not n long, or
+                                        an answer table or the buffer for a record or an image is too short */
   MOVER_REFUSED_EDGE_ORDER = 3,      /* an edge has b >= n or a >= b, or is not after its forerunner */
   MOVER_REFUSED_EDGE_LENGTH = 4,     /* a length is above 65,535: no image gives this */
   MOVER_REFUSED_NOT_CONNECTED = 5,   /* some vertex cannot be reached from vertex 0 */
@@ -97,12 +102,13 @@ enum {
                                         length above 65,535 or an amount above 4,294,967,295 */
   MOVER_REFUSED_WEIGHT_RANGE = 15,   /* a weight is below 0, above 1 or no number, or an amount that is to be a
                                         weight is above 16,777,216 */
-  MOVER_REFUSED_WEIGHT_GRAINS = 16   /* a weight is no whole number of grains */
+  MOVER_REFUSED_WEIGHT_GRAINS = 16,  /* a weight is no whole number of grains */
+  MOVER_REFUSED_START_VERTEX = 17    /* the start is no vertex: it is not below n */
 };
 
 /* A number as a line of text. */
 static inline const char *mover_refusal_text(uint32_t number) {
-  static const char *const texts[17] = {
+  static const char *const texts[18] = {
       "accepted",
       "the number of vertices is 0 or above 64",
       "there are more than 512 edges, or a table has the wrong length",
@@ -120,8 +126,9 @@ static inline const char *mover_refusal_text(uint32_t number) {
       "no such number",
       "a weight is below 0, above 1 or no number, or an amount is above 16777216",
       "a weight is no whole number of grains",
+      "the start is no vertex",
   };
-  return number < 17 ? texts[number] : "no such number";
+  return number < 18 ? texts[number] : "no such number";
 }
 
 /* ---- Calls over tables (libhost_calls.a)
@@ -196,6 +203,23 @@ uint32_t mover_solve(size_t n, const uint32_t *a, size_t a_len, const uint32_t *
  * If y >= n, the checks run all the same, and nothing changes. Refuses by 1, 2, 8 and 10. */
 uint32_t mover_mark_ancestors(size_t n, size_t root, const uint32_t *parents, size_t parents_len, size_t y,
                               uint64_t *masks, size_t masks_len);
+
+/* The vertices within reach of a start: `mask` becomes the word with bit v for each vertex v whose distance
+ * from `start` is at most `reach`, the start itself among them. Distances are least lengths over all paths,
+ * so what is welded to a vertex within reach is within reach. Refuses by 1 to 5, then by 17 if start >= n; a
+ * refusal makes `mask` 0. */
+uint32_t mover_vertices_within(size_t n, const uint32_t *a, size_t a_len, const uint32_t *b, size_t b_len,
+                               const uint32_t *lengths, size_t lengths_len, size_t start, uint32_t reach,
+                               uint64_t *mask);
+
+/* The nearest vertex with paint: `vertex` becomes that one of the vertices with a positive amount whose
+ * distance from `start` is least, the lowest of those that are equally near, or MOVER_NO_VERTEX if no amount
+ * is positive. The start itself counts, at distance 0 like what is welded to it. `amounts` is one painting, n
+ * long. Refuses by 1 to 5, by 6 if its total is above 16,777,216, then by 17 if start >= n; a refusal makes
+ * `vertex` 0. */
+uint32_t mover_nearest_vertex(size_t n, const uint32_t *a, size_t a_len, const uint32_t *b, size_t b_len,
+                              const uint32_t *lengths, size_t lengths_len, size_t start,
+                              const uint64_t *amounts, size_t amounts_len, uint32_t *vertex);
 
 /* Reads an image, described below, into tables, and judges nothing but its form.
  *

@@ -70,6 +70,14 @@ def main() -> None:
     gives = weight_mover.to_weights(stroke.table[0])
     print(f"of a stroke, vertex 0 gives {gives[7]} to 7 and {gives[8]} to 8")
 
+    # A brush: what it covers, and where there is weight next to a vertex without.
+    covered = weight_mover.vertices_within(len(mu), edges, start=4, reach=1300)
+    print(f"a brush of 13 mm at vertex 4 covers {covered}")
+    near = weight_mover.nearest_vertex(edges, start=2, painting=mu)
+    if near is not None:
+        way = apart[2][near] / 100
+        print(f"the weight nearest to vertex 2 is at {near}, {way:.2f} mm away")
+
     # What is not sound is refused, with the reason.
     try:
         weight_mover.solve(edges, mu, [4000] + 8 * [0])

@@ -137,6 +137,60 @@ def marked(parents: List[int], y: int, words: List[int]) -> List[int]:
     return [word | 1 << y if x in met else word for x, word in enumerate(words)]
 
 
+def lengths_from(edges: List[Edge], start: int) -> Dict[int, int]:
+    """The least length of a path from a vertex to each one that it reaches: paths get
+    one edge more, in both directions, until no length falls."""
+    least, fell = {start: 0}, True
+    while fell:
+        fell = False
+        for a, b, length in edges:
+            for x, y in ((a, b), (b, a)):
+                if x in least and (y not in least or least[x] + length < least[y]):
+                    least[y], fell = least[x] + length, True
+    return least
+
+
+def failing(
+    n: int, edges: List[Edge], start: int, painting: Optional[List[int]] = None
+) -> List[int]:
+    """The checks of a query from a start vertex that fail, in their order; without a
+    painting 6 is none of them. The edges as they stand."""
+    ends = [(a, b) for a, b, _ in edges]
+    fails = {
+        1: not 1 <= n <= 64,
+        2: len(edges) > 512 or painting is not None and len(painting) != n,
+        3: not all(a < b < n for a, b in ends) or ends != sorted(set(ends)),
+        4: any(length > 65_535 for _, _, length in edges),
+        5: len(lengths_from(edges, 0)) < n,
+        6: sum(painting or []) > 2**24,
+        17: start >= n,
+    }
+    return [number for number, failed in fails.items() if failed]
+
+
+def within(n: int, edges: List[Edge], start: int, reach: int) -> Tuple[int, List[int]]:
+    """The number that refuses the query, 0 if none does, and the vertices whose
+    distance from the start is at most the reach."""
+    numbers = failing(n, edges, start)
+    if numbers:
+        return numbers[0], []
+    apart = lengths_from(edges, start)
+    return 0, [x for x in range(n) if apart[x] <= reach]
+
+
+def nearest(
+    n: int, edges: List[Edge], start: int, painting: List[int]
+) -> Tuple[int, Any]:
+    """The number that refuses the query, 0 if none does, and the nearest vertex with a
+    positive amount, of equally near ones the lowest, or None."""
+    numbers = failing(n, edges, start, painting)
+    if numbers:
+        return numbers[0], []
+    apart = lengths_from(edges, start)
+    positive = [x for x in range(n) if painting[x] > 0]
+    return 0, min(positive, key=lambda x: (apart[x], x), default=None)
+
+
 def in_grains(weights: List[Any]) -> Tuple[int, List[int]]:
     """The number that refuses the weights, 0 if none does, and their amounts."""
     if not all(0 <= weight <= 1 for weight in weights):  # no number fails this too
@@ -312,6 +366,84 @@ def random_problem(draw: random.Random) -> Problem:
     mu = random_painting(draw, n, total)
     nu = mu if draw.random() < 0.1 else random_painting(draw, n, total)
     return Problem(random_edges(draw, n), mu, list(nu))
+
+
+class Query(NamedTuple):
+    """What is asked from a start vertex: with a reach, or with a painting. The edges
+    are in order."""
+
+    n: int
+    edges: List[Edge]
+    start: int
+    reach: int
+    painting: List[int]
+
+
+def random_query(draw: random.Random) -> Query:
+    """A reach at a distance or next to it, at times far; paint on few vertices, which
+    are often far ones, on none or on many."""
+    problem = random_problem(draw)
+    n, start = problem.n, draw.randrange(problem.n)
+    apart = lengths_from(problem.edges, start)
+    near = max(draw.choice(list(apart.values())) + draw.choice([-1, 0, 0, 1]), 0)
+    reach = draw.choice([near, near, near, near, 0, 65_536, 2**32 - 1])
+    far = sorted(apart, key=apart.__getitem__)[draw.choice([0, n // 2, n // 2]) :]
+    spots = n * [0]
+    for x in draw.sample(far, min(len(far), draw.choice([0, 1, 2, 2, 3, 3, 4]))):
+        spots[x] = draw.choice([1, 2, 2**24 // n])
+    painting = draw.choice([spots, spots, spots, problem.mu])
+    return Query(n, in_order(problem.edges), start, reach, painting)
+
+
+def faulty(draw: random.Random, query: Query) -> Query:
+    """The query with up to three faults, often of checks next to each other. On some
+    patches some of them are none."""
+    n, edges, start, reach, painting = query
+    numbers, count = [17, 6, 5, 4, 3, 2, 1], draw.choice([0, 1, 1, 2, 2, 3])
+    place, some = draw.randrange(8 - count), sorted(draw.sample(range(7), count))
+    next_to = numbers[place : place + count]
+    for number in draw.choice([next_to, [numbers[k] for k in some]]):
+        if number == 1:
+            n = draw.choice([0, 65, 2**32 + n, 2**64 - 1])
+        elif number == 2 and draw.random() < 0.5:
+            edges = edges + 513 * edges[-1:]
+        elif number == 2:
+            painting = draw.choice([painting[1:], painting + [0]])
+        elif number == 6:
+            painting = large_painting(draw, painting)
+        elif number == 17:
+            start = draw.choice([n, 64, 256 + start, 2**32 + start, 2**64 - 1])
+        else:
+            edges = faulty_edges(draw, number, n, edges)
+    return Query(n, edges, start, reach, painting)
+
+
+def faulty_edges(
+    draw: random.Random, number: int, n: int, edges: List[Edge]
+) -> List[Edge]:
+    """An edge with wrong ends or out of order, one that is too long, or a vertex
+    without edges."""
+    if not edges:
+        return [(0, n, 1)] if number == 3 else edges
+    place = draw.randrange(len(edges))
+    a, b, length = edges[place]
+    if number == 5:
+        return [edge for edge in edges if b not in edge[:2]]
+    ends = [(b, a), (a, a), (a, n), (a, 2**32 - 1), edges[place - 1][:2]]
+    if number == 3:
+        a, b = draw.choice(ends)
+    else:
+        length = draw.choice([65_535, 65_536, 2**32 - 1])
+    return edges[:place] + [(a, b, length)] + edges[place + 1 :]
+
+
+def large_painting(draw: random.Random, painting: List[int]) -> List[int]:
+    """A total on either side of the bound, or one that 64 bits do not hold."""
+    x, rest = draw.randrange(len(painting)), painting[:]
+    rest[x] = 0
+    total = sum(rest)
+    rest[x] = draw.choice([2**24 - total, 2**24 + 1 - total, 2**64 - max(total, 1)])
+    return rest
 
 
 def single(bits: int) -> float:

@@ -1,5 +1,5 @@
-"""Tests of the Python module: marked cases, refusals, inputs, random patches, images,
-weights.
+"""Tests of the Python module: marked cases, refusals, inputs, random patches, queries,
+images, weights.
 
     python3 test_weight_mover.py
 
@@ -40,17 +40,22 @@ from reference import (
     changed,
     directory,
     entries,
+    failing,
     faults,
+    faulty,
     fitting_contents,
     image_of,
     in_grains,
     in_order,
+    lengths_from,
     marked,
     moves,
+    nearest,
     random_amounts,
     random_double,
     random_image,
     random_problem,
+    random_query,
     random_single,
     random_tree,
     random_weights,
@@ -62,6 +67,7 @@ from reference import (
     tree_figures,
     weigh,
     with_gaps,
+    within,
 )
 
 
@@ -95,13 +101,18 @@ def draws(salt: str, count: int) -> Iterator[Tuple[str, random.Random]]:
         yield f"seed {SEED}, {salt} {index}", draw
 
 
+def edge_tables(edges: List[wm.Edge]) -> List[Any]:
+    """Three tables of the edges as they stand."""
+    parts = [[edge[part] for edge in edges] for part in range(3)]
+    return [(ctypes.c_uint32 * len(part))(*part) for part in parts]
+
+
 def as_tables(given: Contents) -> List[Any]:
     """What mover_write_image takes before its buffer; the edges as they stand."""
-    edges = [[edge[part] for edge in given.edges] for part in range(3)]
     parents = given.parents or []
     return [
         len(given.mu),
-        *((ctypes.c_uint32 * len(part))(*part) for part in edges),
+        *edge_tables(given.edges),
         *((ctypes.c_uint64 * len(part))(*part) for part in (given.mu, given.nu)),
         given.parents is not None,
         given.root,
@@ -126,6 +137,30 @@ def outcome(call: Callable[..., Any], *arguments: Any) -> Tuple[int, Any]:
         return 0, call(*arguments)
     except wm.Refusal as refusal:
         return refusal.number, []
+
+
+def ask(call: str, n: int, tables: List[Any], start: int, more: Any) -> Tuple[int, int]:
+    """The number that a query with a reach or a painting returns, and its single
+    result, which was 8. What is next to that and the tables stay as they were."""
+    kind: Any = ctypes.c_uint64 if call == "vertices_within" else ctypes.c_uint32
+    if isinstance(more, list):
+        more = (ctypes.c_uint64 * len(more))(*more)
+    lent = (kind * 3)(7, 8, 9)
+    result = ctypes.byref(kind.from_buffer(lent, ctypes.sizeof(kind)))
+    given = [*tables, more] if isinstance(more, ctypes.Array) else tables
+    before = [bytes(table) for table in given]
+    number = wm._call(f"mover_{call}", n, *tables, start, more, result)
+    assert [bytes(table) for table in given] == before, "a table changed"
+    assert (lent[0], lent[2]) == (7, 9), "a place next to the result changed"
+    return number, lent[1]
+
+
+def as_word(answer: Any) -> int:
+    """A query's answer as the call gives it: a list of vertices, which is empty after a
+    refusal, or a vertex or None."""
+    if isinstance(answer, list):
+        return sum(1 << x for x in answer)
+    return 64 if answer is None else int(answer)
 
 
 # ---- The marked cases
@@ -203,6 +238,66 @@ MARKED = {
     ),
 }
 # fmt: on
+
+# Patches to ask on: a way round that is shorter than the edge from 0 to 1, a seam after
+# an edge, and a line of 64 vertices whose numbers go to and fro, from 0 to 63 to 1.
+ROUND = [(0, 1, 5), (0, 2, 1), (0, 3, 3), (1, 2, 1)]
+BEHIND = [(0, 1, 5), (1, 2, 0), (2, 3, 1)]
+SEAM = MARKED["seam"].problem.edges
+FOUR = [0, 1, 2, 3]
+FAR = 65_535
+TO_AND_FRO = [x // 2 if x % 2 == 0 else 63 - x // 2 for x in range(64)]
+ZIGZAG = in_order([(a, b, FAR) for a, b in zip(TO_AND_FRO, TO_AND_FRO[1:])])
+
+# n, the edges and a start, and the vertices within each reach.
+WITHIN: List[Tuple[int, List[wm.Edge], int, Dict[int, List[int]]]] = [
+    (1, [], 0, {0: [0], 1: [0], 2**32 - 1: [0]}),
+    (4, RING, 2, {0: [2], 1: [1, 2, 3], 2: FOUR, 2**32 - 1: FOUR}),
+    (4, ROUND, 0, {0: [0], 1: [0, 2], 2: [0, 1, 2], 3: FOUR, 5: FOUR}),
+    (4, ROUND, 1, {0: [1], 1: [1, 2], 2: [0, 1, 2], 4: [0, 1, 2], 5: FOUR}),
+    (4, SEAM, 0, {0: [0, 1, 2], 4: [0, 1, 2], 5: FOUR}),
+    (4, SEAM, 3, {0: [3], 4: [3], 5: FOUR}),
+    (4, BEHIND, 0, {0: [0], 4: [0], 5: [0, 1, 2], 6: FOUR}),
+    (4, BEHIND, 2, {0: [1, 2], 1: [1, 2, 3], 4: [1, 2, 3], 5: FOUR}),
+    (2, [(0, 1, FAR)], 1, {FAR - 1: [1], FAR: [0, 1], FAR + 1: [0, 1]}),
+    (64, ZIGZAG, 0, {k * FAR: sorted(TO_AND_FRO[: k + 1]) for k in range(64)}),
+    (64, ZIGZAG, 0, {k * FAR - 1: sorted(TO_AND_FRO[:k]) for k in range(1, 64)}),
+    (64, ZIGZAG, 32, {k * FAR: sorted(TO_AND_FRO[63 - k :]) for k in range(64)}),
+    (64, ZIGZAG, 16, {31 * FAR: sorted(TO_AND_FRO[1:]), 32 * FAR: list(range(64))}),
+]
+
+# The edges, a start and a painting, and the nearest vertex with paint.
+NEAREST: List[Tuple[List[wm.Edge], int, List[int], Any]] = [
+    ([], 0, [7], 0),
+    ([], 0, [0], None),
+    (RING, 0, [0, 0, 0, 0], None),
+    (RING, 0, [0, 0, 1, 1], 3),
+    (RING, 3, [0, 1, 0, 0], 1),
+    # equally near
+    (RING, 0, [0, 1, 0, 1], 1),
+    (RING, 2, [0, 1, 0, 1000], 1),
+    (RING, 3, [1, 0, FULL - 1, 0], 0),
+    # the start itself
+    (RING, 2, [1, 1, 1, 1], 2),
+    (RING, 2, [0, 1000, 1, 1000], 2),
+    (RING, 3, [FULL - 1, 0, 0, 1], 3),
+    # the way round, and seams
+    (ROUND, 0, [0, 1, 0, 1], 1),
+    (ROUND, 1, [1, 0, 0, 1], 0),
+    (SEAM, 2, [1, 1, 1, 1], 0),
+    (SEAM, 2, [0, 1, 1, 1], 1),
+    (SEAM, 1, [0, 0, 1, 1], 2),
+    (SEAM, 3, [0, 1, 1, 0], 1),
+    (SEAM, 3, [1, 1, 1, 1], 3),
+    (BEHIND, 3, [0, 1, 1, 0], 1),
+    (BEHIND, 3, [1, 0, 1, 0], 2),
+    (ZIGZAG, 0, 64 * [0], None),
+    (ZIGZAG, 0, [0] + 63 * [1], 63),
+    (ZIGZAG, 0, 31 * [0] + [1, 1] + 31 * [0], 31),
+    (ZIGZAG, 0, 32 * [0] + [1] + 31 * [0], 32),
+    (ZIGZAG, 32, 32 * [1] + 32 * [0], 31),
+    (ZIGZAG, 32, [1] + 62 * [0] + [1], 63),
+]
 
 # Case A's image, written by hand.
 IMAGE_A = bytes.fromhex(
@@ -364,6 +459,25 @@ class MarkedCases(unittest.TestCase):
                     masks = wm.mark_ancestors(n, case.root, case.parents, y, masks)
                 self.assertEqual(masks, [tree.subtree(x) for x in range(n)])
 
+    def test_vertices_within(self) -> None:
+        for n, edges, start, reached in WITHIN:
+            for reach, wanted in reached.items():
+                given = edges, start, reach
+                self.assertEqual(wm.vertices_within(n, *given), wanted, given)
+                got = ask("vertices_within", n, edge_tables(edges), start, reach)
+                self.assertEqual(got, (0, as_word(wanted)), given)
+
+    def test_nearest_vertex(self) -> None:
+        for edges, start, painting, wanted in NEAREST:
+            given = edges, start, painting
+            found = wm.nearest_vertex(*given)
+            self.assertEqual((type(found), found), (type(wanted), wanted), given)
+            weights = [x * GRAIN if x > 0 else -0.0 for x in painting]
+            self.assertEqual(wm.nearest_vertex(edges, start, weights), wanted, given)
+            more = edge_tables(edges), start, painting
+            got = ask("nearest_vertex", len(painting), *more)
+            self.assertEqual(got, (0, as_word(wanted)), given)
+
     def test_to_amounts(self) -> None:
         for weight, amount in WEIGHTS + [(-0.0, 0), (0, 0), (1, FULL), (True, FULL)]:
             for n in (1, 2, 64, 65, 1000):
@@ -437,8 +551,14 @@ class Refusals(unittest.TestCase):
         if number <= 5:
             self.refused(number, wm.distances, len(mu), edges)
             self.refused(number, wm.distances_of_records, len(mu), edges)
+            for start in (0, len(mu), 2**64 - 1):
+                self.refused(number, wm.vertices_within, len(mu), edges, start, 1)
+                self.refused(number, wm.nearest_vertex, edges, start, mu)
         else:
             wm.distances(len(mu), edges)
+            wm.vertices_within(len(mu), edges, 0, 1)
+        if number > 6:
+            wm.nearest_vertex(edges, 0, mu)
 
     def test_1_vertex_count(self) -> None:
         self.by_all(1, [], [], [])
@@ -509,6 +629,12 @@ class Refusals(unittest.TestCase):
         self.by_all(6, [], [FULL + 1], [FULL + 1])
         self.by_all(6, [(0, 1, 1)], [0, 0], [FULL, 1])
         self.refused(6, wm.solve, [(0, 1, 1)], [2**64 - 1, 2], [1, 0])
+        above = [FULL + 1, 0], [1, FULL], [2**32, 0], [2, 2**64 - 1], [2**63, 2**63]
+        for painting in above:
+            self.refused(6, wm.nearest_vertex, [(0, 1, 1)], 0, painting)
+            self.refused(6, wm.nearest_vertex, [(0, 1, 1)], 2, painting)
+        self.refused(6, wm.nearest_vertex, [(0, 1, 1)], 0, [1.0, GRAIN])
+        self.assertEqual(wm.nearest_vertex([(0, 1, 1)], 0, [0, FULL]), 1)
         case_f = MARKED["F"].problem
         self.by_all(6, case_f.edges, [FULL + 1, 0], [0, FULL + 1])
 
@@ -747,6 +873,102 @@ class Refusals(unittest.TestCase):
                 got = wm._call("mover_mark_ancestors", n, root, tables, y, words)
                 self.assertEqual((got, list(words)), (number, lent))
 
+    def asked(self, number: int, n: int, edges: List[wm.Edge], start: int) -> None:
+        """Both queries refuse, and their results are 0; a painting that is too large
+        comes before the start. The module puts the edges in order."""
+        tables, ordered = edge_tables(edges), edges == in_order(edges)
+        for reach in (0, 1, 2**32 - 1):
+            got = ask("vertices_within", n, tables, start, reach)
+            self.assertEqual(got, (number, 0), (n, edges, start, reach))
+            if ordered:
+                self.refused(number, wm.vertices_within, n, edges, start, reach)
+        for amount, by in ((0, number), (1, number), (FULL + 1, min(number, 6))):
+            painting = min(n, 65) * [amount]
+            got = ask("nearest_vertex", n, tables, start, painting)
+            self.assertEqual(got, (by, 0), (n, edges, start, painting))
+            if ordered and n <= 65:
+                self.refused(by, wm.nearest_vertex, edges, start, painting)
+
+    def test_queries(self) -> None:
+        """The queries refuse by 1 to 5, then 6 on a painting, then 17, in this order,
+        and their single results are 0."""
+        every = [(a, b, 1) for a in range(33) for b in range(a + 1, 33)]
+        refused: List[Tuple[int, int, List[wm.Edge], int]] = [
+            (1, 0, [], 0),
+            (1, 65, [], 0),
+            (1, 65, [(x, x + 1, 1) for x in range(64)], 0),
+            (1, 2**32 + 3, PATH, 0),
+            (1, 2**64 - 1, PATH, 0),
+            (2, 33, every[:513], 0),
+            (3, 3, [(0, 1, 1), (1, 2, 1), (2, 3, 1)], 0),
+            (3, 3, [(0, 1, 1), (1, 2**32 - 1, 1)], 0),
+            (3, 3, [(0, 1, 1), (1, 1, 1), (1, 2, 1)], 0),
+            (3, 3, [(0, 1, 1), (2, 1, 1)], 0),
+            (3, 3, [(1, 2, 1), (0, 1, 1)], 0),
+            (3, 3, [(0, 1, 1), (0, 1, 1), (1, 2, 1)], 0),
+            (3, 3, [(0, 1, 1), (0, 1, 2), (1, 2, 1)], 0),
+            (4, 3, [(0, 1, 65_536), (1, 2, 1)], 0),
+            (4, 3, [(0, 1, 1), (0, 2, 1), (1, 2, 2**32 - 1)], 0),
+            (5, 2, [], 1),
+            (5, 3, [(0, 1, 1)], 0),
+            (5, 3, [(1, 2, 1)], 1),
+            (5, 4, [(0, 1, 1), (2, 3, 0)], 3),
+            (17, 1, [], 1),
+            (17, 3, PATH, 3),
+            (17, 3, PATH, 64),
+            (17, 3, PATH, 256),
+            (17, 3, PATH, 2**32 + 1),
+            (17, 3, PATH, 2**64 - 1),
+            (17, 64, ZIGZAG, 64),
+            (17, 64, ZIGZAG, 65),
+            # two checks fail
+            (1, 0, every[:513], 0),
+            (1, 0, [(0, 1, 1)], 0),
+            (1, 65, [(1, 0, 65_536)], 65),
+            (2, 3, 513 * [(0, 3, 65_536)], 0),
+            (2, 33, every[:513], 33),
+            (3, 3, [(0, 1, 65_536), (0, 3, 1)], 0),
+            (3, 3, [(1, 0, 1)], 0),
+            (3, 3, [(0, 1, 1), (1, 3, 1)], 3),
+            (4, 3, [(0, 1, 65_536)], 0),
+            (4, 3, [(0, 1, 65_536), (1, 2, 1)], 3),
+            (5, 3, [(0, 1, 1)], 2),
+            (5, 3, [(1, 2, 1)], 3),
+        ]
+        for given in refused:
+            self.asked(*given)
+
+    def test_lists_of_queries(self) -> None:
+        """Edge lists of unequal length, which the module never gives, and paintings
+        that are not n long: 2, after 1 and before all others."""
+        for place in range(3):
+            for size in (0, 1, 3):
+                tables = edge_tables([(0, 1, 65_536), (1, 1, 1)])
+                numbers = (tables[place][:] + [1])[:size]
+                tables[place] = (ctypes.c_uint32 * size)(*numbers)
+                for n, start in ((3, 0), (3, 3), (0, 0), (65, 0)):
+                    wanted = 2 if n == 3 else 1, 0
+                    got = ask("vertices_within", n, tables, start, 1)
+                    self.assertEqual(got, wanted, (place, size, n, start))
+                    got = ask("nearest_vertex", n, tables, start, n * [FULL])
+                    self.assertEqual(got, wanted, (place, size, n, start))
+        for edges in (PATH, PATH[:1], [(0, 1, 65_536), (1, 1, 1)]):
+            for start in (0, 2, 3):
+                for size in (0, 1, 2, 4, 64, 65):
+                    more = edge_tables(edges), start, size * [FULL]
+                    self.assertEqual(ask("nearest_vertex", 3, *more), (2, 0), more)
+                    self.assertEqual(ask("nearest_vertex", 0, *more), (1, 0), more)
+
+    def test_17_start(self) -> None:
+        for n in (1, 2, 63, 64):
+            edges = [(x, x + 1, 1) for x in range(n - 1)]
+            for start in (n, n + 1, 64, 65, 2**32, 2**32 + n - 1, 2**64 - 1):
+                self.refused(17, wm.vertices_within, n, edges, start, 1)
+                self.refused(17, wm.nearest_vertex, edges, start, n * [1])
+                self.refused(17, wm.nearest_vertex, edges, start, n * [0])
+            self.assertIn(n - 1, wm.vertices_within(n, edges, n - 1, 0))
+            self.assertEqual(wm.nearest_vertex(edges, n - 1, n * [1]), n - 1)
+
     def by_paintings(self, number: int, painting: List[Any]) -> None:
         """Refused in place of mu or of nu, before all that the calls check."""
         for given in (([], painting, [3]), ([(0, 0, 0)], [3], painting)):
@@ -754,6 +976,8 @@ class Refusals(unittest.TestCase):
             self.refused(number, wm.evaluate, *given, 0, [])
             self.refused(number, wm.is_optimal, *given, 0, [])
             self.refused(number, wm.write, *given)
+        self.refused(number, wm.nearest_vertex, [], 0, painting)
+        self.refused(number, wm.nearest_vertex, [(0, 0, 0)], 9, painting)
 
     def test_15_weights(self) -> None:
         for wrong in BEYOND:
@@ -828,12 +1052,12 @@ class Header(unittest.TestCase):
             self.text = file.read()
 
     def test_texts(self) -> None:
-        block = re.search(r"texts\[17\] = \{(.*?)\};", self.text, re.S)
+        block = re.search(r"texts\[18\] = \{(.*?)\};", self.text, re.S)
         assert block is not None
         texts = re.findall(r'"(.*)"', block.group(1))
-        self.assertEqual(len(texts), 17)
-        self.assertEqual([wm.refusal_text(k) for k in range(17)], texts)
-        for number in (14, 17, 2**32 - 1, -1):
+        self.assertEqual(len(texts), 18)
+        self.assertEqual([wm.refusal_text(k) for k in range(18)], texts)
+        for number in (14, 18, 2**32 - 1, -1):
             self.assertEqual(wm.refusal_text(number), "no such number")
 
     def test_constants(self) -> None:
@@ -842,6 +1066,7 @@ class Header(unittest.TestCase):
         self.assertEqual(int(numbers["MAX_EDGES"]), wm.MAX_EDGES)
         self.assertEqual(int(numbers["MAX_LENGTH"]), wm.MAX_LENGTH)
         self.assertEqual(int(numbers["MAX_TOTAL"]), wm.MAX_TOTAL)
+        self.assertEqual(int(numbers["NO_VERTEX"]), wm._NO_VERTEX)
         self.assertEqual(int(numbers["RECORD_MAX"]), wm._RECORD_MAX)
         self.assertEqual(int(numbers["IMAGE_HEADER"]), wm._HEADER)
         self.assertEqual(int(numbers["IMAGE_WRITTEN_MAX"]), wm._WRITTEN_MAX)
@@ -892,6 +1117,8 @@ class Inputs(unittest.TestCase):
             self.assertEqual(got.cost, case.cost)
             self.assertFalse(wm.is_optimal(*given, case.root, case.parents))
             self.assertEqual(wm.distances(4, edges)[0], [0, 1, 2, 1])
+            self.assertEqual(wm.vertices_within(4, edges, 3, 1), [0, 2, 3])
+            self.assertEqual(wm.nearest_vertex(edges, 3, [1, 1, 1, 0]), 0)
             self.assertEqual(wm.read(wm.write(*given)).edges, RING)
             self.assertEqual(given, (edges, case.problem.mu, case.problem.nu))
 
@@ -914,10 +1141,16 @@ class Inputs(unittest.TestCase):
             self.assertEqual(image, IMAGE_A)
             masks = wm.mark_ancestors(4, 3, kind([1, 2, 3, 3]), 1, kind([0, 0, 0, 8]))
             self.assertEqual(masks, [0, 2, 2, 10])
+            rows = (kind(list(edge)) for edge in edges)
+            self.assertEqual(wm.vertices_within(4, rows, 1, 3), [0, 1, 2])
+            rows = (kind(list(edge)) for edge in edges)
+            self.assertEqual(wm.nearest_vertex(rows, 3, kind([5, 1, 0, 0])), 1)
             self.assertEqual(wm.to_weights(kind([5, 0])), [5 * GRAIN, 0])
             self.assertEqual(wm.to_amounts(kind([1, 0])), [FULL, 0])
         columns: Any = memoryview(bytes(sum(edges, ()))).cast("B", [len(edges), 3])
         self.assertEqual(wm.solve(columns, mu, nu).cost, wanted)
+        self.assertEqual(wm.vertices_within(4, columns, 1, 3), [0, 1, 2])
+        self.assertEqual(wm.nearest_vertex(columns, True, [True, 0, 0, 7]), 0)
 
     def test_images(self) -> None:
         """Bytes, and buffers of them, which are not changed."""
@@ -958,6 +1191,8 @@ class Inputs(unittest.TestCase):
             self.assertEqual(wm.solve(PATH, kind(mu), kind(nu)), best)
             self.assertEqual(wm.solve(PATH, kind(mu), amounts[1]), best)
             self.assertEqual(wm.solve(PATH, amounts[0], kind(nu)), best)
+            self.assertEqual(wm.nearest_vertex(PATH, 2, kind(mu)), 1)
+            self.assertEqual(wm.nearest_vertex(PATH, 0, kind(nu)), 1)
             self.assertEqual((mu, nu), ([0.5, 0.25, -0.0], [0.0, 0.125, 0.625]))
 
     def test_mixtures(self) -> None:
@@ -974,6 +1209,8 @@ class Inputs(unittest.TestCase):
                 for call, more in calls:
                     with self.assertRaisesRegex(TypeError, "in one painting"):
                         call(*given, *more)
+            with self.assertRaisesRegex(TypeError, "in one painting"):
+                wm.nearest_vertex(PATH, 0, wrong)
         with self.assertRaisesRegex(TypeError, "nu: 3 and 0.5 in one painting"):
             wm.solve(PATH, [1, 0, 0], [0.5, 3, 7])
 
@@ -1017,6 +1254,15 @@ class Inputs(unittest.TestCase):
             ("parent", lambda x: wm.mark_ancestors(2, 0, [0, x], 1, [0, 0]), u32),
             ("y", lambda x: wm.mark_ancestors(2, 0, [0, 0], x, [0, 0]), u64),
             ("mask", lambda x: wm.mark_ancestors(2, 0, [0, 0], 1, [0, x]), u64),
+            ("n", lambda x: wm.vertices_within(x, edges, 0, 1), u64),
+            ("end", lambda x: wm.vertices_within(2, [(0, x, 1)], 0, 1), u32),
+            ("length", lambda x: wm.vertices_within(2, [(0, 1, x)], 0, 1), u32),
+            ("start", lambda x: wm.vertices_within(2, edges, x, 1), u64),
+            ("reach", lambda x: wm.vertices_within(2, edges, 0, x), u32),
+            ("end", lambda x: wm.nearest_vertex([(x, 1, 1)], 0, mu), u32),
+            ("length", lambda x: wm.nearest_vertex([(0, 1, x)], 0, mu), u32),
+            ("start", lambda x: wm.nearest_vertex(edges, x, mu), u64),
+            ("painting", lambda x: wm.nearest_vertex(edges, 0, [0, x]), u64),
             ("amount", lambda x: wm.to_weights([0, x]), u64),
             ("end in an image", lambda x: wm.write([(0, x, 1)], mu, nu), u32),
             ("length in an image", lambda x: wm.write([(0, 1, x)], mu, nu), u32),
@@ -1033,7 +1279,8 @@ class Inputs(unittest.TestCase):
                     with self.assertRaisesRegex(OverflowError, f"{wrong} is not from"):
                         call(wrong)
             for other in (1.0, "1", None, [1], NAN, b"1", Fraction(1)):
-                mixed = isinstance(other, float) and place[:2] in ("mu", "nu")
+                painted = place.startswith(("mu", "nu", "painting"))
+                mixed = isinstance(other, float) and painted
                 reason = "in one painting" if mixed else "is not an integer"
                 with self.subTest(place=place, number=other):
                     with self.assertRaisesRegex(TypeError, reason):
@@ -1054,6 +1301,15 @@ class Inputs(unittest.TestCase):
             (wm.evaluate, (*two, 0, {0: 0, 1: 0})),
             (wm.mark_ancestors, (2, 0, [0, 0], 1, 0)),
             (wm.mark_ancestors, (2, 0, [0, 0], 1, {0: 0, 1: 0})),
+            (wm.vertices_within, (2, 5, 0, 1)),
+            (wm.vertices_within, (2, [(0, 1)], 0, 1)),
+            (wm.vertices_within, ([1, 0], two[0], 0, 1)),
+            (wm.nearest_vertex, (5, 0, two[1])),
+            (wm.nearest_vertex, ([(0, 1, 1, 1)], 0, two[1])),
+            (wm.nearest_vertex, (two[0], 0, 2)),
+            (wm.nearest_vertex, (two[0], 0, None)),
+            (wm.nearest_vertex, (two[0], 0, {0: 1, 1: 0})),
+            (wm.nearest_vertex, (two[0], 0, {0, 1})),
             (wm.write, (*two[:2], {0, 1})),
             (wm.write, (*two, 0, 0)),
             (wm.write, (*two, 0, {0: 0, 1: 0})),
@@ -1082,6 +1338,10 @@ class Inputs(unittest.TestCase):
             self.assertEqual(wm.Tree(*tree).depth(parents[0]), 2)
             masks = wm.mark_ancestors(4, *tree, parents[0], np.zeros(4, dtype=kind))
             self.assertEqual(masks, [0, 2, 2, 2])
+            near = wm.vertices_within(np.int64(4), columns, parents[0], columns[1, 2])
+            self.assertEqual(near, [0, 1, 2])
+            self.assertEqual(wm.nearest_vertex(columns, parents[2], paintings[0]), 2)
+            self.assertEqual(wm.nearest_vertex(columns, np.uint8(0), paintings[1]), 1)
             image = wm.write(columns, *paintings, *tree)
             self.assertEqual(image, IMAGE_A)
             self.assertEqual(wm.run(np.frombuffer(image, dtype="u1")).cost, case.cost)
@@ -1089,6 +1349,8 @@ class Inputs(unittest.TestCase):
             self.assertEqual(wm.rewrite(spaced), IMAGE_A)
         records = np.array(edges, dtype=[("a", "u4"), ("b", "u4"), ("length", "u4")])
         self.assertEqual(wm.solve(records, mu, nu).cost, case.best)
+        self.assertEqual(wm.vertices_within(4, records, 3, 1), [2, 3])
+        self.assertEqual(type(wm.nearest_vertex(records, 1, np.array(mu))), int)
         self.assertEqual(type(wm.solve(records, np.array(mu), nu).cost), int)
 
     @unittest.skipUnless(np, "numpy is not installed")
@@ -1101,6 +1363,8 @@ class Inputs(unittest.TestCase):
             self.assertEqual(wm.solve(PATH, before, after), best)
             self.assertEqual(wm.solve(PATH, list(before), nu), best)  # numpy's scalars
             self.assertEqual(wm.solve(PATH, wm.to_amounts(mu), after), best)
+            self.assertEqual(wm.nearest_vertex(PATH, 2, before), 1)
+            self.assertEqual(wm.nearest_vertex(PATH, 0, list(after)), 1)
         self.assertEqual(wm.to_amounts(np.array([1, 0], dtype="u1")), [FULL, 0])
         self.assertEqual(wm.to_amounts([np.int8(1), np.float32(GRAIN)]), [FULL, 1])
         weights = np.array(wm.to_weights(range(1000)), dtype="f4")
@@ -1124,11 +1388,23 @@ class Inputs(unittest.TestCase):
             wm.solve(edges, np.array(mu) - 1, nu)
         with self.assertRaises(OverflowError):
             wm.distances(4, np.array(edges, dtype="i8") + 2**32)
+        with self.assertRaises(OverflowError):
+            wm.vertices_within(4, edges, np.int8(-1), 1)
+        with self.assertRaises(OverflowError):
+            wm.vertices_within(4, edges, 0, np.uint64(2**32))
+        with self.assertRaises(OverflowError):
+            wm.nearest_vertex(edges, 0, np.array(mu) - 1)
+        with self.assertRaisesRegex(wm.Refusal, "refused 15"):
+            wm.nearest_vertex(edges, 0, np.array(mu, dtype=float))
         with self.assertRaisesRegex(wm.Refusal, "refused 15"):  # floats are weights
             wm.solve(edges, np.array(mu, dtype=float), nu)
         for wrong in (np.array(mu, dtype=complex), np.array([mu]), np.array(5)):
             with self.assertRaises(TypeError):
                 wm.solve(edges, wrong, nu)
+            with self.assertRaises(TypeError):
+                wm.nearest_vertex(edges, 0, wrong)
+        with self.assertRaises(TypeError):
+            wm.vertices_within(4, edges, 0, np.float32(1))
         with self.assertRaises(TypeError):
             wm.solve(np.array(edges).T[:2].T, mu, nu)
         for call in (wm.run, wm.read, wm.rewrite):
@@ -1147,7 +1423,9 @@ class Surroundings(unittest.TestCase):
         self.assertEqual(lines[0], "least cost 19.02, in weight times mm")
         self.assertIn("  vertex 7 gives 1 0.200 over 26.33 mm", lines)
         self.assertIn("of a stroke, vertex 0 gives 0.25 to 7 and 0.5 to 8", lines)
-        self.assertEqual(len(lines), 18)
+        self.assertIn("a brush of 13 mm at vertex 4 covers [1, 3, 4, 5]", lines)
+        self.assertIn("the weight nearest to vertex 2 is at 5, 12.57 mm away", lines)
+        self.assertEqual(len(lines), 20)
         self.assertEqual(lines[-1], "refused 7: the two totals differ")
 
     def test_docstring(self) -> None:
@@ -1327,6 +1605,79 @@ class ByDefinition(unittest.TestCase):
                 self.assertEqual(masks[:n], [word for _, _, word in figures], name)
                 self.assertEqual(masks[:n], [tree.subtree(x) for x in range(n)], name)
 
+    def test_vertices_within(self) -> None:
+        met = {"all": 0, "some": 0, "the start alone": 0, "one just reached": 0}
+        for name, draw in draws("within", CASES // 2):
+            n, edges, start, reach, _ = random_query(draw)
+            wanted = within(n, edges, start, reach)[1]
+            shuffled = draw.sample(edges, len(edges))
+            found = wm.vertices_within(n, shuffled, start, reach)
+            self.assertEqual(found, wanted, name)
+            got = ask("vertices_within", n, edge_tables(edges), start, reach)
+            self.assertEqual(got, (0, as_word(wanted)), name)
+            met["all"] += 1 < n == len(wanted)
+            met["some"] += 1 < len(wanted) < n
+            met["the start alone"] += len(wanted) == 1 < n
+            met["one just reached"] += reach in lengths_from(edges, start).values()
+        self.assertGreater(min(met.values()), CASES // 40, met)
+
+    def test_nearest_vertex(self) -> None:
+        met = {"none": 0, "the start": 0, "a tie": 0, "one that is welded": 0}
+        for name, draw in draws("nearest", CASES // 2):
+            n, edges, start, _, painting = random_query(draw)
+            wanted = nearest(n, edges, start, painting)[1]
+            shuffled = draw.sample(edges, len(edges))
+            weights = [x * GRAIN for x in painting]
+            given: List[Any] = [painting, weights]
+            for amounts in given:
+                found = wm.nearest_vertex(shuffled, start, amounts)
+                self.assertEqual(found, wanted, name)
+            got = ask("nearest_vertex", n, edge_tables(edges), start, painting)
+            self.assertEqual(got, (0, as_word(wanted)), name)
+            apart = lengths_from(edges, start)
+            painted = [apart[x] for x in range(n) if painting[x] > 0]
+            met["none"] += wanted is None
+            met["the start"] += wanted == start
+            met["a tie"] += painted.count(min(painted, default=0)) > 1
+            met["one that is welded"] += wanted != start and apart.get(wanted) == 0
+        self.assertGreater(min(met.values()), CASES // 40, met)
+
+    def test_faulty_queries(self) -> None:
+        """By the call, with edges as they stand, and by the module where they are in
+        order and the painting is n long."""
+        met = {number: 0 for number in (0, 1, 2, 3, 4, 5, 6, 17)}
+        for name, draw in draws("faulty", CASES):
+            n, edges, start, reach, painting = faulty(draw, random_query(draw))
+            tables, ordered = edge_tables(edges), edges == in_order(edges)
+            number, answer = within(n, edges, start, reach)
+            got = ask("vertices_within", n, tables, start, reach)
+            self.assertEqual(got, (number, as_word(answer)), name)
+            if ordered:
+                found = outcome(wm.vertices_within, n, edges, start, reach)
+                self.assertEqual(found, (number, answer), name)
+            number, answer = nearest(n, edges, start, painting)
+            got = ask("nearest_vertex", n, tables, start, painting)
+            self.assertEqual(got, (number, as_word(answer)), name)
+            if ordered and len(painting) == n:
+                found = outcome(wm.nearest_vertex, edges, start, painting)
+                self.assertEqual(found, (number, answer), name)
+            met[number] += 1
+        self.assertGreater(min(met.values()), CASES // 100, met)
+
+    def test_queries_and_distances(self) -> None:
+        """From each vertex of a patch the queries say what the distances say."""
+        for name, draw, problem in problems("starts", CASES // 10):
+            edges, painting, _ = problem
+            for start, row in enumerate(wm.distances(problem.n, edges)):
+                reach = max(draw.choice(row) - draw.randrange(2), 0)
+                near = [x for x, length in enumerate(row) if length <= reach]
+                found = wm.vertices_within(problem.n, edges, start, reach)
+                self.assertEqual(found, near, name)
+                painted = [(row[x], x) for x, amount in enumerate(painting) if amount]
+                wanted = min(painted)[1] if painted else None
+                found = wm.nearest_vertex(edges, start, painting)
+                self.assertEqual(found, wanted, name)
+
     def weights(self) -> Iterator[Tuple[str, List[float]]]:
         """Floats next to powers of two, of any bits, and lists with faults."""
         for bits in range(2**23, 2**32, 2**23):
@@ -1393,6 +1744,11 @@ class ByDefinition(unittest.TestCase):
                 self.assertEqual(wm.write(edges, *given), image, name)
 
 
+# From n, edges as they stand, a start and a reach or a painting: the number that is
+# returned, and the vertices, or the vertex or None.
+Query = Callable[[int, List[wm.Edge], int, Any], Tuple[int, Any]]
+
+
 class WrongAnswers(unittest.TestCase):
     """Answers that are spoiled on purpose: the tests above would notice."""
 
@@ -1441,6 +1797,10 @@ class WrongAnswers(unittest.TestCase):
             (MarkedCases, "distances", [(-1, -1)]),
             (MarkedCases, "mark_ancestors", [(-1, 0), (-1, -1)]),
             (ByDefinition, "mark_ancestors", [(-1, 0), (-1, -1)]),
+            (MarkedCases, "vertices_within", [(-1, 0)]),
+            (ByDefinition, "vertices_within", [(-1, 0)]),
+            (MarkedCases, "nearest_vertex", [(-1, 0)]),
+            (ByDefinition, "nearest_vertex", [(-1, 0)]),
             (MarkedCases, "to_amounts", [(-1, 0), (-1, -1)]),
             (ByDefinition, "to_amounts", [(-1, 0), (-1, -1)]),
             (MarkedCases, "to_weights", [(-1, 0), (-1, -1)]),
@@ -1485,6 +1845,52 @@ class WrongAnswers(unittest.TestCase):
                 ByDefinition(f"test_{test}").run(result)
             self.assertTrue(result.failures, (name, call))
 
+    def passes(
+        self, call: str, query: Query, test: unittest.TestCase, cases: int = 2000
+    ) -> bool:
+        """Whether a test passes when a query is answered otherwise. The patches are
+        many, since some faults show on few of them; the first that does ends a test."""
+        result = unittest.TestResult()
+        with mock.patch.object(wm, "_call", answering(call, query)):
+            with mock.patch.dict(globals(), CASES=cases):
+                test.run(result)
+        return result.wasSuccessful()
+
+    def test_right_queries(self) -> None:
+        """The definitions in place of the library pass the tests of both queries."""
+        for call, query in RIGHT.items():
+            for test in (
+                MarkedCases(f"test_{call}"),
+                ByDefinition(f"test_{call}"),
+                Refusals("test_queries"),
+                Refusals("test_lists_of_queries"),
+                Refusals("test_6_total"),
+                ByDefinition("test_faulty_queries"),
+            ):
+                self.assertTrue(self.passes(call, query, test, 200), (call, test))
+
+    def test_queries(self) -> None:
+        """A query that goes by other distances or answers otherwise, and tests fail."""
+        for call, others in (
+            ("vertices_within", wrong_within()),
+            ("nearest_vertex", wrong_nearest()),
+        ):
+            for name, query in {**wrong_distances(call), **others}.items():
+                for test in (MarkedCases(f"test_{call}"), ByDefinition(f"test_{call}")):
+                    self.assertFalse(self.passes(call, query, test), (call, name, test))
+
+    def test_refusals_of_queries(self) -> None:
+        """A query that refuses otherwise, and tests fail."""
+        for call, by_hand, wrong in (
+            ("vertices_within", "test_queries", wrong_refusals("vertices_within")),
+            ("nearest_vertex", "test_queries", wrong_refusals("nearest_vertex")),
+            ("nearest_vertex", "test_6_total", wrong_totals()),
+            ("nearest_vertex", "test_lists_of_queries", wrong_lists()),
+        ):
+            for name, query in wrong.items():
+                for test in (Refusals(by_hand), ByDefinition("test_faulty_queries")):
+                    self.assertFalse(self.passes(call, query, test), (call, name, test))
+
 
 def spoil(spoiled: str, place: int, item: int) -> Callable[..., Any]:
     """The library with one result of a call one too large: an item of a table, or the
@@ -1502,6 +1908,228 @@ def spoil(spoiled: str, place: int, item: int) -> Callable[..., Any]:
         return number
 
     return call
+
+
+RIGHT: Dict[str, Query] = {"vertices_within": within, "nearest_vertex": nearest}
+KEPT = -1  # in place of an answer: the single result is not written
+
+
+def answering(call: str, query: Query) -> Callable[..., Any]:
+    """The library with another query. Edge lists of unequal length are given to it as
+    too many edges, since both are refused by 2."""
+    real = wm._call
+
+    def other(name: str, *arguments: Any) -> Any:
+        if name != f"mover_{call}":
+            return real(name, *arguments)
+        n, a, b, lengths, start, more, result = arguments
+        equal = len(a) == len(b) == len(lengths)
+        edges = list(zip(a, b, lengths)) if equal else 513 * [(0, 0, 0)]
+        given = list(more) if isinstance(more, ctypes.Array) else more
+        number, answer = query(n, edges, start, given)
+        if answer != KEPT:
+            result._obj.value = as_word(answer)
+        return number
+
+    return other
+
+
+def swept(edges: List[wm.Edge], start: int, sweeps: int) -> Dict[int, int]:
+    """Lengths that are not yet the least: after so many sweeps over the edges, from the
+    lower end to the higher by rising number and back, in turn."""
+    least = {start: 0}
+    for sweep in range(sweeps):
+        for a, b, length in edges if sweep % 2 == 0 else edges[::-1]:
+            x, y = (a, b) if sweep % 2 == 0 else (b, a)
+            if x in least and least[x] + length < least.get(y, INFINITY):
+                least[y] = least[x] + length
+    return least
+
+
+def own_lengths(edges: List[wm.Edge], start: int) -> Dict[int, int]:
+    """The length of each edge at the start, by its other end."""
+    ends = {a + b - start: length for a, b, length in edges if start in (a, b)}
+    return {start: 0, **ends}
+
+
+def wrong_distances(call: str) -> Dict[str, Query]:
+    """A query by other lengths from the start. Its refusals are right."""
+
+    def other(lengths: Callable[[List[wm.Edge], int], Dict[int, int]]) -> Query:
+        def query(n: int, edges: List[wm.Edge], start: int, more: Any) -> Any:
+            number, answer = RIGHT[call](n, edges, start, more)
+            if number != 0:
+                return number, answer
+            found = lengths(edges, start)
+            apart = [found.get(x, INFINITY) for x in range(n)]
+            if call == "vertices_within":
+                return 0, [x for x in range(n) if apart[x] <= more]
+            painted = (x for x in range(n) if more[x] > 0)
+            return 0, min(painted, key=lambda x: apart[x], default=None)
+
+        return query
+
+    def changed_lengths(change: Callable[[int], int]) -> Query:
+        return other(
+            lambda edges, x: lengths_from([(a, b, change(c)) for a, b, c in edges], x)
+        )
+
+    return {
+        "an edge's own length": other(own_lengths),
+        "edges counted": changed_lengths(lambda c: 1),
+        "a seam 1 long": changed_lengths(lambda c: max(c, 1)),
+        "a seam 65,535 long": changed_lengths(lambda c: c or 65_535),
+        "no seams": other(
+            lambda edges, x: lengths_from([edge for edge in edges if edge[2] > 0], x)
+        ),
+        "from vertex 0": other(lambda edges, x: lengths_from(edges, 0)),
+        "16 bits of a length": other(
+            lambda edges, x: {y: c % 2**16 for y, c in lengths_from(edges, x).items()}
+        ),
+        "one sweep": other(lambda edges, x: swept(edges, x, 1)),
+        "two sweeps": other(lambda edges, x: swept(edges, x, 2)),
+        "three sweeps": other(lambda edges, x: swept(edges, x, 3)),
+    }
+
+
+def wrong_within() -> Dict[str, Query]:
+    """Other vertices within a reach. The refusals are right."""
+
+    def kept(keep: Callable[[int, int, int], bool]) -> Query:
+        def query(n: int, edges: List[wm.Edge], start: int, reach: int) -> Any:
+            number, answer = within(n, edges, start, reach)
+            return number, [x for x in answer if keep(x, n, start)]
+
+        return query
+
+    return {
+        "below the reach": lambda n, edges, x, reach: within(n, edges, x, reach - 1),
+        "past the reach": lambda n, edges, x, reach: within(n, edges, x, reach + 1),
+        "16 bits of reach": lambda n, edges, x, r: within(n, edges, x, r % 2**16),
+        "the start left out": kept(lambda x, n, start: x != start),
+        "the last left out": kept(lambda x, n, start: x != n - 1),
+        "32 bits": kept(lambda x, n, start: x < 32),
+    }
+
+
+def wrong_nearest() -> Dict[str, Query]:
+    """Another vertex as the nearest, by another key or without one. The refusals are
+    right."""
+
+    def least(key: Callable[[int, int, int], Any]) -> Query:
+        def query(n: int, edges: List[wm.Edge], start: int, amounts: List[int]) -> Any:
+            apart = lengths_from(edges, start)
+            painted = (x for x in range(n) if amounts[x] > 0)
+            answer = min(
+                painted, key=lambda x: key(apart[x], x, amounts[x]), default=None
+            )
+            number, right = nearest(n, edges, start, amounts)
+            return number, right if number != 0 else answer
+
+        return query
+
+    def repainted(change: Callable[[int, int], int]) -> Query:
+        def query(n: int, edges: List[wm.Edge], start: int, amounts: List[int]) -> Any:
+            painting = [change(amount, x - start) for x, amount in enumerate(amounts)]
+            return nearest(n, edges, start, painting)
+
+        return query
+
+    def none_as(answer: Callable[[int], int]) -> Query:
+        def query(n: int, *given: Any) -> Any:
+            number, found = nearest(n, *given)
+            return number, answer(n) if found is None else found
+
+        return query
+
+    return {
+        "the highest of a tie": least(lambda length, x, amount: (length, -x)),
+        "the most paint of a tie": least(lambda length, x, amount: (length, -amount)),
+        "the lowest number": least(lambda length, x, amount: x),
+        "the most paint": least(lambda length, x, amount: -amount),
+        "the farthest": least(lambda length, x, amount: -length),
+        "amounts ignored": repainted(lambda amount, ahead: 1),
+        "a single grain ignored": repainted(lambda amount, ahead: amount // 2),
+        "the start left out": repainted(lambda amount, ahead: amount if ahead else 0),
+        "none as 0": none_as(lambda n: 0),
+        "none as n": none_as(lambda n: n),
+    }
+
+
+def wrong_refusals(call: str) -> Dict[str, Query]:
+    """A query that refuses by another number, or not, or does not clear its result."""
+    painted = call == "nearest_vertex"
+    order = [1, 2, 3, 4, 5, 6, 17] if painted else [1, 2, 3, 4, 5, 17]
+
+    def refusing(choose: Callable[[List[int]], Tuple[int, Any]]) -> Query:
+        def query(n: int, edges: List[wm.Edge], start: int, more: Any) -> Any:
+            numbers = failing(n, edges, start, more if painted else None)
+            return choose(numbers) if numbers else RIGHT[call](n, edges, start, more)
+
+        return query
+
+    def without(number: int) -> Query:
+        return refusing(
+            lambda numbers: (next((k for k in numbers if k != number), 0), [])
+        )
+
+    def before(first: int, number: int) -> Query:
+        other = sorted(order, key=lambda k: (first, 0) if k == number else (k, 1))
+        return refusing(lambda numbers: (min(numbers, key=other.index), []))
+
+    return {
+        **{f"{number} left out": without(number) for number in order},
+        **{f"{k} before {j}": before(j, k) for j, k in zip(order, order[1:])},
+        "17 first": before(1, 17),
+        "the result kept": refusing(lambda numbers: (numbers[0], KEPT)),
+        "the result 1": refusing(lambda numbers: (numbers[0], 1)),
+        **wrong_starts(RIGHT[call]),
+    }
+
+
+def wrong_starts(right: Query) -> Dict[str, Query]:
+    """A query that takes a start that is no vertex for one."""
+
+    def other(change: Callable[[int, int], int]) -> Query:
+        return lambda n, edges, start, more: right(n, edges, change(n, start), more)
+
+    return {
+        "a start of n": other(lambda n, start: start - (start == n)),
+        "32 bits of a start": other(lambda n, start: start % 2**32),
+        "8 bits of a start": other(lambda n, start: start % 2**8),
+        "6 bits of a start": other(lambda n, start: start % 2**6),
+    }
+
+
+def wrong_lists() -> Dict[str, Query]:
+    """A nearest vertex that takes a painting which is not n long."""
+
+    def other(change: Callable[[int, List[int]], List[int]]) -> Query:
+        return lambda n, edges, x, more: nearest(n, edges, x, change(n, more))
+
+    return {
+        "cut off": other(lambda n, amounts: amounts[:n]),
+        "filled up": other(lambda n, amounts: amounts + (n - len(amounts)) % 65 * [0]),
+    }
+
+
+def wrong_totals() -> Dict[str, Query]:
+    """A nearest vertex with another bound on the painting's total."""
+
+    def taken(accept: Callable[[List[int]], bool]) -> Query:
+        def query(n: int, edges: List[wm.Edge], start: int, amounts: List[int]) -> Any:
+            few = [min(amount, 1) for amount in amounts]
+            most = [2**24 + 1 for _ in amounts]
+            return nearest(n, edges, start, few if accept(amounts) else most)
+
+        return query
+
+    return {
+        "64 bits of a total": taken(lambda amounts: sum(amounts) % 2**64 <= FULL),
+        "each amount alone": taken(lambda amounts: max(amounts, default=0) <= FULL),
+        "a total of 16,777,216 refused": taken(lambda amounts: sum(amounts) < FULL),
+        "a total of 16,777,217 taken": taken(lambda amounts: sum(amounts) <= FULL + 1),
+    }
 
 
 @unittest.skipUnless(nx, "networkx is not installed")
@@ -1540,12 +2168,25 @@ class AgainstNetworkx(unittest.TestCase):
         print(f"judged best {judged[True]}, not best {judged[False]}", flush=True)
         self.assertGreater(min(judged.values()), CASES // 4)
 
+    def graph(self, n: int, edges: List[wm.Edge]) -> Any:
+        graph = nx.Graph()
+        graph.add_nodes_from(range(n))
+        graph.add_weighted_edges_from(edges)
+        return graph
+
+    def test_queries(self) -> None:
+        for name, draw in draws("brushes", CASES // 2):
+            n, edges, start, reach, painting = random_query(draw)
+            apart, _ = nx.single_source_dijkstra(self.graph(n, edges), start)
+            near = [x for x in range(n) if apart[x] <= reach]
+            self.assertEqual(wm.vertices_within(n, edges, start, reach), near, name)
+            painted = [(apart[x], x) for x in range(n) if painting[x] > 0]
+            wanted = min(painted)[1] if painted else None
+            self.assertEqual(wm.nearest_vertex(edges, start, painting), wanted, name)
+
     def test_distances(self) -> None:
         for name, _, problem in problems("distances", CASES // 2):
-            n = problem.n
-            graph = nx.Graph()
-            graph.add_nodes_from(range(n))
-            graph.add_weighted_edges_from(problem.edges)
+            n, graph = problem.n, self.graph(problem.n, problem.edges)
             if n <= 10:
                 found = nx.floyd_warshall(graph)
             else:

@@ -28,6 +28,14 @@ Costs count grains times hundredths of a millimetre. A tree is a root and the pa
 each vertex; the root is its own parent, and every other vertex shares an edge of the
 patch with its parent.
 
+A brush asks which vertices are within a reach of one, and which vertex with paint is
+nearest to it. Both go by distance, the least sum of lengths over all paths.
+
+    >>> weight_mover.vertices_within(3, edges, start=0, reach=1)
+    [0, 2]
+    >>> weight_mover.nearest_vertex(edges, start=0, painting=[0, 3, 0])
+    1
+
 An image is a patch with its paintings and, if there is one, a tree in bytes. `write`
 gives equal patches equal bytes and different ones different bytes; images from
 elsewhere, with gaps in them, can be compared once `rewrite` has taken the gaps out.
@@ -93,6 +101,7 @@ __all__ = [
     "evaluate",
     "is_optimal",
     "mark_ancestors",
+    "nearest_vertex",
     "read",
     "refusal_text",
     "rewrite",
@@ -100,9 +109,10 @@ __all__ = [
     "solve",
     "to_amounts",
     "to_weights",
+    "vertices_within",
     "write",
 ]
-__version__ = "0.3.0"
+__version__ = "0.3.1"
 
 MAX_VERTICES = 64
 MAX_EDGES = 512
@@ -141,6 +151,7 @@ _TEXTS = (
     _UNKNOWN,
     "a weight is below 0, above 1 or no number, or an amount is above 16777216",
     "a weight is no whole number of grains",
+    "the start is no vertex",
 )
 
 
@@ -152,10 +163,11 @@ def refusal_text(number: int) -> str:
 class Refusal(ValueError):
     """The library refuses what it was given.
 
-    `number` says which check failed, 1 to 13, 15 or 16, and `text` what it means. The
+    `number` says which check failed, 1 to 13 or 15 to 17, and `text` what it means. The
     checks run in the order 11, 12, 13 and then 1 to 10; each call says by which it
-    refuses. `write` alone has 13 last, after 1 and 2. Before all of them, weights are
-    refused by 15 and then 16, those of mu first.
+    refuses. `write` alone has 13 last, after 1 and 2; calls from a start vertex have 17
+    last, after 5 or 6. Before all of them, weights are refused by 15 and then 16, those
+    of mu first.
     """
 
     def __init__(self, number: int) -> None:
@@ -299,6 +311,14 @@ _SIGNATURES = {
     "mover_is_optimal": (c_uint32, _PROBLEM + _GIVEN_TREE + [POINTER(c_uint32)]),
     "mover_solve": (c_uint32, _PROBLEM + _U32S + _I32S + _U32S + _COST_AND_MOVES),
     "mover_mark_ancestors": (c_uint32, [c_size_t] + _GIVEN_TREE + [c_size_t] + _U64S),
+    "mover_vertices_within": (
+        c_uint32,
+        [c_size_t] + _EDGE_LISTS + [c_size_t, c_uint32, POINTER(c_uint64)],
+    ),
+    "mover_nearest_vertex": (
+        c_uint32,
+        [c_size_t] + _EDGE_LISTS + [c_size_t] + _U64S + [POINTER(c_uint32)],
+    ),
     "mover_read": (
         c_uint32,
         _BYTES + _EDGE_LISTS + 2 * _U64S + _U32S + _N_M_ROOT_TREE,
@@ -382,6 +402,13 @@ def _given_tree(root: SupportsIndex, parents: Numbers) -> Tuple[int, Any]:
 
 # ---- Answers
 
+_NO_VERTEX = 64  # what stands for no vertex
+
+
+def _vertices(word: int) -> List[int]:
+    """The vertices whose bits are set in a word."""
+    return [y for y in range(MAX_VERTICES) if word >> y & 1]
+
 
 class Tree:
     """A rooted tree by the parents of its vertices; the root is its own parent.
@@ -423,8 +450,7 @@ class Tree:
 
     def below(self, v: SupportsIndex) -> List[int]:
         """The vertices of `subtree(v)` as a list."""
-        word = self.subtree(v)
-        return [y for y in range(MAX_VERTICES) if word >> y & 1]
+        return _vertices(self.subtree(v))
 
     def __eq__(self, other: object) -> bool:
         return isinstance(other, Tree) and bytes(self._tree) == bytes(other._tree)
@@ -625,6 +651,55 @@ def mark_ancestors(
     words = _array(c_uint64, _numbers(masks, _U64, "masks"))
     _check("mover_mark_ancestors", count, *tree, vertex, words)
     return list(words)
+
+
+def vertices_within(
+    n: SupportsIndex, edges: Edges, start: SupportsIndex, reach: SupportsIndex
+) -> List[int]:
+    """The vertices, rising, whose distance from a start vertex is at most the reach.
+
+    The start itself is among them. The reach is in hundredths of a millimetre, as the
+    lengths are, from 0 to 4,294,967,295. What is welded to a vertex within reach is
+    within reach:
+
+    >>> vertices_within(4, [(0, 1, 5), (1, 2, 0), (2, 3, 1)], start=0, reach=5)
+    [0, 1, 2]
+
+    Refuses by 1 to 5, then by 17 if the start is not below n.
+    """
+    count = _number(n, _U64, "n")
+    given = _number(start, _U64, "start"), _number(reach, _U32, "reach")
+    mask = c_uint64()
+    _check("mover_vertices_within", count, *_edge_lists(edges), *given, byref(mask))
+    return _vertices(mask.value)
+
+
+def nearest_vertex(
+    edges: Edges, start: SupportsIndex, painting: Painting
+) -> Optional[int]:
+    """Of the vertices with a positive amount that one whose distance from a start
+    vertex is least, the lowest of those that are equally near; None if no amount is
+    positive.
+
+    The start itself counts, at distance 0. There are as many vertices as the painting
+    has amounts, in grains, or weights if they are floats.
+
+    >>> ring = [(0, 1, 2), (0, 3, 2), (1, 2, 2), (2, 3, 2)]
+    >>> nearest_vertex(ring, start=0, painting=[0, 1, 0, 5])
+    1
+    >>> nearest_vertex(ring, start=0, painting=[0.5, 0.25, 0.0, 0.25])
+    0
+    >>> print(nearest_vertex(ring, start=0, painting=[0, 0, 0, 0]))
+    None
+
+    Refuses by 1 to 6, 6 if the painting's total is above 16,777,216, then by 17 if the
+    start is no vertex, and weights by 15 and 16 before.
+    """
+    amounts = _array(c_uint64, _painting(painting, "painting"))
+    given = *_edge_lists(edges), _number(start, _U64, "start"), amounts
+    vertex = c_uint32()
+    _check("mover_nearest_vertex", len(amounts), *given, byref(vertex))
+    return None if vertex.value == _NO_VERTEX else vertex.value
 
 
 def to_amounts(weights: Weights) -> List[int]:

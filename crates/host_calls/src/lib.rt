@@ -2,6 +2,8 @@
 ghost use mathlib.Core.Path.{_≡_};
 ghost use Rattle.graph.specs.Graph.{graph};
 ghost use Rattle.distances.specs.Distances.{distancesRefusal, distancesTable};
+ghost use Rattle.distance_queries.specs.Within.{FoundWithin};
+ghost use Rattle.distance_queries.specs.Nearest.{FoundNearest};
 ghost use Rattle.given_tree.specs.Given.{given};
 ghost use Rattle.tree_evaluation.specs.Evaluate.{Evaluated};
 ghost use Rattle.optimal_transport.specs.Solve.{Solved};
@@ -131,6 +133,43 @@ pub extern "C" fn mover_mark_ancestors(
         × (now (masks .exit) ≡ markTable n root (now (parents .entry)) y (now (masks .entry))) ⌝ }
 {
     tree_walks::mark_ancestors::mark_ancestors(n, root, parents, y, masks)
+}
+
+// The word of all vertices whose distance from `start` is at most `reach`.
+#[no_mangle]
+pub extern "C" fn mover_vertices_within(
+    n: usize,
+    a: &[u32],
+    b: &[u32],
+    lengths: &[u32],
+    start: usize,
+    reach: u32,
+    mask: &mut u64,
+) -> u32
+    ensures { λ r. ⌜ FoundWithin (graph n (now (a .entry)) (now (b .entry)) (now (lengths .entry))) start reach r (now (mask .exit)) ⌝ }
+{
+    let within = distance_queries::vertices_within(n, a, b, lengths, start, reach);
+    *mask = within.mask;
+    within.refusal
+}
+
+// The vertex with a positive amount whose distance from `start` is least, the lowest of those equally near; 64 if there is none.
+#[no_mangle]
+pub extern "C" fn mover_nearest_vertex(
+    n: usize,
+    a: &[u32],
+    b: &[u32],
+    lengths: &[u32],
+    start: usize,
+    amounts: &[u64],
+    vertex: &mut u32,
+) -> u32
+    ensures { λ r. ⌜ FoundNearest (graph n (now (a .entry)) (now (b .entry)) (now (lengths .entry))) start (now (amounts .entry))
+        r (now (vertex .exit)) ⌝ }
+{
+    let nearest = distance_queries::nearest_vertex(n, a, b, lengths, start, amounts);
+    *vertex = nearest.vertex;
+    nearest.refusal
 }
 
 // Fills the first places of `amounts` with the amounts of the weights, in grains.

@@ -1,6 +1,6 @@
 // Sets of vertices, as words: bit x stands for vertex x.
 ghost use mathlib.Core.Path.{_≡_};
-ghost use Prim.Native.Nat.{ℕ, _≤_, _<_};
+ghost use Prim.Native.Nat.{ℕ, _-_, _^_, _≤_, _<_};
 ghost use lib.Dec.{eqb};
 ghost use Rattle.arithmetic.specs.Table.{at};
 ghost use Rattle.arithmetic.specs.Steps.Mask.{bit};
@@ -15,6 +15,14 @@ pub fn lowest_vertex(n: usize, word: u64) -> usize
     ensures { λ r. ⌜ (r ≡ lowest (bit word) n 0) × (r < n) ⌝ }
 {
     u64::trailing_zeros(word) as usize
+}
+
+// A word that has a vertex, without its lowest one.
+pub fn without_lowest(n: usize, word: u64) -> u64
+    requires { ⌜ (n ≤ 64) × (word ≡ mask n (bit word)) × (word ≡ 0 → ⊥) ⌝ }
+    ensures { λ r. ⌜ r ≡ word - 2 ^ lowest (bit word) n 0 ⌝ }
+{
+    word & (word - 1)
 }
 
 // u, raised or lowered by d.

@@ -4,3 +4,4 @@ pub mod Best
 pub mod Marks
 pub mod Weights
 pub mod Images
+pub mod Queries

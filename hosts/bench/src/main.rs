@@ -1,11 +1,12 @@
 //! Times the weight mover, LEMON's network simplex and the plain reference solver on the same images.
 //!
-//! Usage: `bench [PATCHES] [SEED]`; prints a markdown table.
+//! Usage: `bench [queries] [PATCHES] [SEED]`; prints a markdown table, with `queries` that of [`queries`].
 //!
 //! Each solver starts from the image and builds its graph from it. The weight mover also checks the image
 //! and fills the whole record: tree, potential and the n × n plan. LEMON finds the flow on the arcs.
 
 mod pivots;
+mod queries;
 
 use reference::checks::accept;
 use reference::flow::least_cost;
@@ -140,13 +141,8 @@ fn measure(image: &[u8], record: &mut [u8]) -> [f64; 3] {
     times.map(median)
 }
 
-fn main() {
-    let mut arguments = std::env::args()
-        .skip(1)
-        .map(|a| a.parse::<u64>().expect("a number"));
-    let patches = arguments.next().unwrap_or(200);
-    let seed = arguments.next().unwrap_or(1);
-
+/// Prints the table of the solvers.
+fn table(patches: u64, seed: u64) {
     println!("{patches} patches of each class, seed {seed}. Of each solver the median of {ROUNDS} calls on each patch, then");
     println!("the median over the patches, in microseconds. A ratio below 1: mover_run is the faster. All costs agree.");
     println!();
@@ -184,5 +180,18 @@ fn main() {
             ratio(1),
             ratio(2)
         );
+    }
+}
+
+fn main() {
+    let mut arguments = std::env::args().skip(1).peekable();
+    let queries = arguments.next_if(|word| word == "queries").is_some();
+    let mut numbers = arguments.map(|a| a.parse::<u64>().expect("a number"));
+    let patches = numbers.next().unwrap_or(200);
+    let seed = numbers.next().unwrap_or(1);
+    if queries {
+        queries::table(patches, seed);
+    } else {
+        table(patches, seed);
     }
 }

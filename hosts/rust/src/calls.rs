@@ -109,6 +109,31 @@ mod ffi {
             masks: *mut u64,
             masks_len: usize,
         ) -> u32;
+        pub fn mover_vertices_within(
+            n: usize,
+            a: *const u32,
+            a_len: usize,
+            b: *const u32,
+            b_len: usize,
+            lengths: *const u32,
+            lengths_len: usize,
+            start: usize,
+            reach: u32,
+            mask: *mut u64,
+        ) -> u32;
+        pub fn mover_nearest_vertex(
+            n: usize,
+            a: *const u32,
+            a_len: usize,
+            b: *const u32,
+            b_len: usize,
+            lengths: *const u32,
+            lengths_len: usize,
+            start: usize,
+            amounts: *const u64,
+            amounts_len: usize,
+            vertex: *mut u32,
+        ) -> u32;
         pub fn mover_to_amounts(
             weights: *const f32,
             weights_len: usize,
@@ -394,6 +419,95 @@ pub fn mover_mark_ancestors(n: usize, root: usize, parents: &[u32], y: usize, ma
             y,
             masks.as_mut_ptr(),
             masks.len(),
+        )
+    }
+}
+
+/// The vertices within reach of a start: `mask` becomes the word with bit v for each vertex v whose distance from
+/// `start` is at most `reach`. The start itself is one of them.
+///
+/// Distances are least lengths over all paths: what is welded to a vertex within reach, by edges of length 0, is
+/// within reach. Refuses by 1 to 5 and then by 17, if `start` is no vertex.
+///
+/// ```
+/// use weight_mover::calls::mover_vertices_within;
+///
+/// // A triangle whose long edge is longer than the way round; 3 is welded to 1.
+/// let (a, b, lengths) = ([0, 0, 1, 1], [1, 2, 2, 3], [5, 1, 1, 0]);
+/// let mut mask = 9;
+/// assert_eq!(mover_vertices_within(4, &a, &b, &lengths, 0, 1, &mut mask), 0);
+/// assert_eq!(mask, 0b0101);
+/// assert_eq!(mover_vertices_within(4, &a, &b, &lengths, 0, 2, &mut mask), 0);
+/// assert_eq!(mask, 0b1111);
+/// assert_eq!(mover_vertices_within(4, &a, &b, &lengths, 4, 2, &mut mask), 17);
+/// assert_eq!(mask, 0);
+/// ```
+pub fn mover_vertices_within(
+    n: usize,
+    a: &[u32],
+    b: &[u32],
+    lengths: &[u32],
+    start: usize,
+    reach: u32,
+    mask: &mut u64,
+) -> u32 {
+    unsafe {
+        ffi::mover_vertices_within(
+            n,
+            a.as_ptr(),
+            a.len(),
+            b.as_ptr(),
+            b.len(),
+            lengths.as_ptr(),
+            lengths.len(),
+            start,
+            reach,
+            mask,
+        )
+    }
+}
+
+/// The nearest vertex with paint: `vertex` becomes the one whose distance from `start` is least among those with
+/// a positive amount, the lowest of those that are equally near. It becomes 64 if no amount is positive.
+///
+/// The start itself counts, at distance 0. `amounts` is one measure, n long. Refuses by 1 to 5, by 6 if its total
+/// is above 16,777,216, and then by 17, if `start` is no vertex.
+///
+/// ```
+/// use weight_mover::calls::mover_nearest_vertex;
+///
+/// // A triangle whose long edge is longer than the way round; 3 is welded to 1.
+/// let (a, b, lengths) = ([0, 0, 1, 1], [1, 2, 2, 3], [5, 1, 1, 0]);
+/// let mut vertex = 9;
+/// assert_eq!(mover_nearest_vertex(4, &a, &b, &lengths, 0, &[0, 7, 0, 7], &mut vertex), 0);
+/// assert_eq!(vertex, 1);
+/// assert_eq!(mover_nearest_vertex(4, &a, &b, &lengths, 0, &[0; 4], &mut vertex), 0);
+/// assert_eq!(vertex, 64);
+/// assert_eq!(mover_nearest_vertex(4, &a, &b, &lengths, 4, &[0, 7, 0, 7], &mut vertex), 17);
+/// assert_eq!(vertex, 0);
+/// ```
+pub fn mover_nearest_vertex(
+    n: usize,
+    a: &[u32],
+    b: &[u32],
+    lengths: &[u32],
+    start: usize,
+    amounts: &[u64],
+    vertex: &mut u32,
+) -> u32 {
+    unsafe {
+        ffi::mover_nearest_vertex(
+            n,
+            a.as_ptr(),
+            a.len(),
+            b.as_ptr(),
+            b.len(),
+            lengths.as_ptr(),
+            lengths.len(),
+            start,
+            amounts.as_ptr(),
+            amounts.len(),
+            vertex,
         )
     }
 }

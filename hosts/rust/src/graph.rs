@@ -1,5 +1,6 @@
 use crate::calls::{
-    mover_distances, mover_distances_of_records, mover_evaluate, mover_is_optimal, mover_solve,
+    mover_distances, mover_distances_of_records, mover_evaluate, mover_is_optimal, mover_nearest_vertex,
+    mover_solve, mover_vertices_within,
 };
 use crate::lend::{lend, settle};
 use crate::{Answer, Evaluation, Refusal, MAX_VERTICES};
@@ -33,8 +34,8 @@ impl From<(u32, u32, u32)> for Edge {
 /// when it is called. Edges may be added in any order and with their ends either way; the same pair twice is
 /// refused.
 ///
-/// Every call comes twice: one makes its answer, the other, with `_into`, fills one that is there already,
-/// without allocating if it was as large before. After a refusal that one is as it was.
+/// Every call that fills tables comes twice: one makes its answer, the other, with `_into`, fills one that is
+/// there already, without allocating if it was as large before. After a refusal that one is as it was.
 ///
 /// ```
 /// use weight_mover::{Answer, Graph};
@@ -287,6 +288,66 @@ impl Graph {
             &mut optimal,
         ))?;
         Ok(optimal == 1)
+    }
+
+    /// The vertices at most `reach` away from a start, which is one of them, bit v for vertex v.
+    ///
+    /// Distances are least lengths over all paths, so that a brush goes on over a seam.
+    ///
+    /// ```
+    /// use weight_mover::{Graph, Refusal};
+    ///
+    /// // A triangle whose long edge is longer than the way round; 3 is welded to 1.
+    /// let graph = Graph::new(4).edges([(0, 1, 5), (0, 2, 1), (1, 2, 1), (1, 3, 0)]);
+    /// assert_eq!(graph.vertices_within(0, 1)?, 0b0101);
+    /// assert_eq!(graph.vertices_within(0, 2)?, 0b1111);
+    /// assert_eq!(graph.vertices_within(1, 0)?, 0b1010);
+    /// assert_eq!(graph.vertices_within(4, 0), Err(Refusal::StartVertex));
+    /// # Ok::<(), Refusal>(())
+    /// ```
+    pub fn vertices_within(&self, start: usize, reach: u32) -> Result<u64, Refusal> {
+        let mut mask = 0;
+        Refusal::check(mover_vertices_within(
+            self.vertices,
+            &self.a,
+            &self.b,
+            &self.lengths,
+            start,
+            reach,
+            &mut mask,
+        ))?;
+        Ok(mask)
+    }
+
+    /// The vertex nearest to a start among those with a positive amount, the lowest of those that are equally
+    /// near. The start itself counts; none if no amount is positive.
+    ///
+    /// `amounts` is one measure, an amount for each vertex.
+    ///
+    /// ```
+    /// use weight_mover::{Graph, Refusal};
+    ///
+    /// // A triangle whose long edge is longer than the way round; 3 is welded to 1.
+    /// let graph = Graph::new(4).edges([(0, 1, 5), (0, 2, 1), (1, 2, 1), (1, 3, 0)]);
+    /// assert_eq!(graph.nearest_vertex(0, &[0, 7, 0, 7])?, Some(1));
+    /// assert_eq!(graph.nearest_vertex(0, &[0, 7, 7, 7])?, Some(2));
+    /// assert_eq!(graph.nearest_vertex(0, &[0; 4])?, None);
+    /// assert_eq!(graph.nearest_vertex(4, &[0; 4]), Err(Refusal::StartVertex));
+    /// # Ok::<(), Refusal>(())
+    /// ```
+    pub fn nearest_vertex(&self, start: usize, amounts: &[u64]) -> Result<Option<usize>, Refusal> {
+        let mut vertex = 0;
+        Refusal::check(mover_nearest_vertex(
+            self.vertices,
+            &self.a,
+            &self.b,
+            &self.lengths,
+            start,
+            amounts,
+            &mut vertex,
+        ))?;
+        // 64, which is no vertex, stands for none.
+        Ok(Some(vertex as usize).filter(|&vertex| vertex < MAX_VERTICES))
     }
 }
 

@@ -34,6 +34,8 @@
 //! | `mover_is_optimal` | [`Graph::is_optimal`] | |
 //! | `mover_solve` | [`Graph::solve`] | [`Graph::solve_into`] |
 //! | `mover_mark_ancestors` | | [`mark_ancestors`] |
+//! | `mover_vertices_within` | [`Graph::vertices_within`] | |
+//! | `mover_nearest_vertex` | [`Graph::nearest_vertex`] | |
 //! | `mover_to_amounts` | [`to_amounts`] | [`to_amounts_into`] |
 //! | `mover_to_weights` | [`to_weights`] | [`to_weights_into`] |
 //! | `mover_read` | [`read`] | [`read_into`] |
@@ -45,8 +47,8 @@
 //!
 //! [`calls`] has them under their own names, on slices. A [`Patch`] is a graph with its measures and perhaps
 //! a tree: what an image holds, and a [`text`]. [`to_amounts`] makes a measure of weights as paint tools hold
-//! them, 32-bit floats from 0 to 1. The library keeps nothing between calls and may be used from several
-//! threads at once.
+//! them, 32-bit floats from 0 to 1. Brushes ask a graph which vertices are within a reach, and which one with
+//! paint is nearest. The library keeps nothing between calls and may be used from several threads at once.
 
 #![warn(missing_docs)]
 

@@ -4,6 +4,7 @@ use std::fmt;
 ///
 /// The checks run in the order 11, 12, 13 and then 1 to 10; the first that fails gives the number. Where an image
 /// is written they are 1, 2 and 13, in this order, and where weights become amounts, and back, 2, 15 and 16.
+/// Calls from a start vertex end with 17, after 5 or, where there is a measure, after 6.
 #[derive(Clone, Copy, Debug, PartialEq, Eq, Hash)]
 #[non_exhaustive]
 pub enum Refusal {
@@ -39,6 +40,8 @@ pub enum Refusal {
     WeightRange,
     /// 16: a weight is no whole number of grains: 16,777,216 times it is not whole.
     WeightGrains,
+    /// 17: the start is no vertex.
+    StartVertex,
     /// A number that this crate does not know.
     Other(u32),
 }
@@ -63,6 +66,7 @@ impl Refusal {
             13 => Refusal::SectionLength,
             15 => Refusal::WeightRange,
             16 => Refusal::WeightGrains,
+            17 => Refusal::StartVertex,
             other => Refusal::Other(other),
         })
     }
@@ -97,6 +101,7 @@ impl Refusal {
             Refusal::SectionLength => 13,
             Refusal::WeightRange => 15,
             Refusal::WeightGrains => 16,
+            Refusal::StartVertex => 17,
             Refusal::Other(number) => number,
         }
     }
@@ -125,6 +130,7 @@ impl fmt::Display for Refusal {
                 "a weight is below 0, above 1 or no number, or an amount is above 16,777,216"
             }
             Refusal::WeightGrains => "a weight is no whole number of grains",
+            Refusal::StartVertex => "the start is no vertex",
             Refusal::Other(_) => "for a reason unknown to this crate",
         };
         write!(f, "refused {}: {meaning}", self.number())
@@ -145,13 +151,17 @@ mod tests {
             let refusal = Refusal::from_number(number).expect("a refusal");
             assert_eq!(refusal.number(), number);
             assert_eq!(Refusal::check(number), Err(refusal));
-            let known = (1..=13).contains(&number) || number == 15 || number == 16;
+            let known = (1..=13).contains(&number) || (15..=17).contains(&number);
             assert_eq!(matches!(refusal, Refusal::Other(_)), !known);
             assert!(refusal.to_string().starts_with(&format!("refused {number}: ")));
         }
         assert_eq!(
             Refusal::SectionLength.to_string(),
             "refused 13: byte 1 of the image is not 0, a section has the wrong length, or a number is too large for an image"
+        );
+        assert_eq!(
+            Refusal::StartVertex.to_string(),
+            "refused 17: the start is no vertex"
         );
     }
 }

@@ -4,6 +4,7 @@
 
 use reference::random::{self, Fault, Random, FAULTS};
 use reference::random_lists::{faulty_lists, sound_problem, ListFault, LIST_FAULTS, SHARED_FAULTS};
+use reference::random_queries::{faulty_query, sound_query, Query, UNASKABLE};
 use reference::random_writer::{accepted, refused, Given, UNWRITABLE};
 use reference::record::Record;
 use reference::runs::{cases, seed};
@@ -13,7 +14,7 @@ use reference::Lists;
 use std::fmt::Debug;
 use weight_mover::calls::{
     mover_distances, mover_distances_of_records, mover_evaluate, mover_is_optimal, mover_mark_ancestors,
-    mover_solve, mover_to_amounts, mover_to_weights,
+    mover_nearest_vertex, mover_solve, mover_to_amounts, mover_to_weights, mover_vertices_within,
 };
 use weight_mover::{
     distances_of_records, distances_of_records_into, image_size, mark_ancestors, read, read_into, rewrite,
@@ -35,6 +36,12 @@ fn graph(random: &mut Random, lists: &Lists) -> Graph {
         .collect();
     random.shuffle(&mut edges);
     Graph::new(lists.n).edges(edges)
+}
+
+/// The lists of a graph: lower ends, upper ends and lengths.
+fn columns(graph: &Graph) -> [Vec<u32>; 3] {
+    let fields: [fn(Edge) -> u32; 3] = [|e| e.a, |e| e.b, |e| e.length];
+    fields.map(|field| graph.iter().map(field).collect())
 }
 
 /// What all wrappers give, filled anew or into what is there.
@@ -73,8 +80,7 @@ fn fill(graph: &Graph, lists: &Lists, filled: &mut Filled) -> (Results, Option<b
 /// The numbers that the calls return for the lists of a graph.
 fn numbers(graph: &Graph, lists: &Lists) -> [u32; 5] {
     let edges: Vec<Edge> = graph.iter().collect();
-    let column = |field: fn(&Edge) -> u32| edges.iter().map(field).collect::<Vec<u32>>();
-    let (a, b, lengths) = (column(|e| e.a), column(|e| e.b), column(|e| e.length));
+    let [a, b, lengths] = columns(graph);
     let Lists {
         n,
         mu,
@@ -384,6 +390,14 @@ fn numbers_do_not_wrap() {
             Err(Refusal::TreeParents)
         );
     }
+    for start in [2, 256, 256 + 1, 1 << 32, 1 << 63, usize::MAX] {
+        assert_eq!(two(1).vertices_within(start, 1), Err(Refusal::StartVertex));
+        assert_eq!(two(1).nearest_vertex(start, &[1, 0]), Err(Refusal::StartVertex));
+    }
+    for amounts in [[(1 << 32) + 1, 0], [(1 << 63) + 1, 1 << 63], [u64::MAX, 2]] {
+        let heavy = Err(Refusal::TotalTooLarge);
+        assert_eq!(two(1).nearest_vertex(0, &amounts), heavy);
+    }
 }
 
 /// Nor do they in an image: what would be right if it were cut to its bytes is refused.
@@ -439,11 +453,11 @@ fn images_of_patches() {
         if tree {
             patch = patch.tree(lists.root, &lists.parents);
         }
-        let column = |field: fn(&Edge) -> u32| patch.graph().iter().map(|e| field(&e)).collect();
+        let [a, b, lengths] = columns(patch.graph());
         let lists = Lists {
-            a: column(|e| e.a),
-            b: column(|e| e.b),
-            lengths: column(|e| e.length),
+            a,
+            b,
+            lengths,
             ..lists
         };
         let expected = write(&lists, tree, usize::MAX);
@@ -696,6 +710,62 @@ fn climbs() {
             assert_eq!(number, refusal.number());
         }
     }
+}
+
+/// Queries from a start are the calls', with the refusal for its number, and none for 64.
+#[test]
+fn queries() {
+    let (seed, count) = (seed(), cases(2_000));
+    let (mut seen, mut none) = ([[0; 18]; 2], 0);
+    for index in 0..count {
+        let random = &mut Random::for_case(seed, index);
+        let fault = random.pick(&UNASKABLE);
+        let Query { lists, start, reach } = match random.below(3) {
+            0 => sound_query(random),
+            _ => faulty_query(random, &[fault]),
+        };
+        let (n, graph) = (lists.n, graph(random, &lists));
+        let [a, b, lengths] = columns(&graph);
+
+        let mut mask = 9;
+        let number = mover_vertices_within(n, &a, &b, &lengths, start, reach, &mut mask);
+        let expected = Refusal::check(number).map(|_| mask);
+        let got = graph.vertices_within(start, reach);
+        assert_eq!(got, expected, "seed {seed}, case {index}");
+        seen[0][number as usize] += 1;
+
+        let mut vertex = 9;
+        let number = mover_nearest_vertex(n, &a, &b, &lengths, start, &lists.mu, &mut vertex);
+        let found = (vertex != 64).then_some(vertex as usize);
+        let expected = Refusal::check(number).map(|_| found);
+        let got = graph.nearest_vertex(start, &lists.mu);
+        assert_eq!(got, expected, "seed {seed}, case {index}");
+        seen[1][number as usize] += 1;
+        none += u64::from(got == Ok(None));
+    }
+    println!("queries: seed {seed}, {count} cases, numbers {seen:?}, no vertex {none}");
+    let own = [&[0, 1, 2, 3, 4, 5, 17][..], &[0, 1, 2, 3, 4, 5, 6, 17]];
+    let came = seen
+        .iter()
+        .zip(own)
+        .all(|(seen, own)| (0..18).all(|k| (seen[k] > 0) == own.contains(&k)));
+    assert!(count < 1_000 || came && none > 0, "{seen:?}, {none}");
+}
+
+/// The last of 64 vertices is a vertex, and its bit the highest.
+#[test]
+fn queries_to_the_last_vertex() {
+    let line = Graph::new(64).edges((1..64).map(|x| (x - 1, x, 65_535)));
+    let farthest = 63 * 65_535;
+    assert_eq!(line.vertices_within(0, farthest), Ok(u64::MAX));
+    assert_eq!(line.vertices_within(0, farthest - 1), Ok(u64::MAX >> 1));
+    assert_eq!(line.vertices_within(63, 0), Ok(1 << 63));
+    let mut amounts = [0; 64];
+    assert_eq!(line.nearest_vertex(0, &amounts), Ok(None));
+    amounts[63] = 1;
+    assert_eq!(line.nearest_vertex(0, &amounts), Ok(Some(63)));
+    assert_eq!(line.nearest_vertex(0, &amounts[1..]), Err(Refusal::TableSize));
+    assert_eq!(line.vertices_within(64, 0), Err(Refusal::StartVertex));
 }
 
 fn bits(weights: &[f32]) -> Vec<u32> {

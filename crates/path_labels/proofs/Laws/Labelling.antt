@@ -21,8 +21,8 @@ use Rattle.rooted_tree.proofs.Laws.Rooted.{rooted-of-rank, tree-ind, depth-step
 use Rattle.graph.specs.Graph.{Graph, edges, joins}
 use Rattle.graph.specs.Steps.Path.{Edge, Path, stay, step}
 use Rattle.graph.specs.Steps.Accepted.{WellFormed}
-use Rattle.graph.proofs.Laws.Accepted.{vertices-in, lists-in}
-use Rattle.graph.proofs.Laws.Edge.{ends-joins, edge-up, edge-turn, edge-in, edge-most, edge-order, lower-rises}
+use Rattle.graph.proofs.Laws.Edge.{ends-joins, edge-turn, edge-in, edge-most, lower-rises}
+use Rattle.graph.proofs.Laws.Formed.{vertices, lists, order, short}
 use Rattle.path_labels.specs.Steps.Weight.{weightOf, unreached, Feasible, FeasibleEdge}
 use Rattle.path_labels.specs.Steps.ShortestPathTree.{Wide, CanFindPaths, Searched}
 use Rattle.path_labels.specs.Steps.Labels.{Hangs, Labelled, Initialized, CanRelax, Relaxed, Swept, SomeLabelled, SweepsUp, SweepsDown, FeasibleUp, Rounds}
@@ -30,24 +30,12 @@ use Rattle.path_labels.proofs.Laws.ShortestPath.{edge-within}
 
 -- ---- a graph that passed checks 1 to 4
 module _ {g : Graph} (f : WellFormed g) where
-  pub vertices : (0 < g .n) × (g .n ≤ 64)
-  vertices = vertices-in (g .n) (f .vertices)
-
-  lists : (edges g ≤ 512) × ((length (g .upper) ≡ edges g) × (length (g .lengths) ≡ edges g))
-  lists = lists-in g (f .lists)
-
-  order : (e : ℕ) → e < edges g → (at (g .lower) e < at (g .upper) e) × (at (g .upper) e < g .n)
-  order = edge-order g (f .edges)
-
-  short : (e : ℕ) → e < edges g → at (g .lengths) e ≤ 65535
-  short e l = edge-most g (f .lengths) (edge-up g e l)
-
   -- lower ends rise with the number, and lie below the upper ones
   up-apart : (i e : ℕ) → e ≤ i → i < edges g → at (g .lower) e ≡ at (g .upper) i → ⊥
-  up-apart i e l h q = omega (arith, lower-rises g (f .edges) e i l h, order i h)
+  up-apart i e l h q = omega (arith, lower-rises g (f .edges) e i l h, order f i h)
 
   down-apart : (i e : ℕ) → i ≤ e → e < edges g → at (g .upper) e ≡ at (g .lower) i → ⊥
-  down-apart i e l h q = omega (arith, lower-rises g (f .edges) i e l h, order e h)
+  down-apart i e l h q = omega (arith, lower-rises g (f .edges) i e l h, order f e h)
 
 -- ---- the start
 

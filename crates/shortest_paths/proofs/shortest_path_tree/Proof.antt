@@ -5,8 +5,9 @@ use lib.ListN.{length}
 use Rattle.arithmetic.specs.Sum.{sum}
 use Rattle.arithmetic.specs.Table.{at}
 use Rattle.graph.specs.Graph.{graph}
+use Rattle.graph.proofs.Laws.Formed.{vertices}
 use Rattle.path_labels.specs.Steps.Labels.{Labelled, FeasibleUp}
-use Rattle.path_labels.proofs.Laws.Labelling.{vertices, first-labelled, searched}
+use Rattle.path_labels.proofs.Laws.Labelling.{first-labelled, searched}
 use Rattle.shortest_paths.proofs.shortest_path_tree.Statement.{statement}
 use Rattle.shortest_paths.proofs.shortest_path_tree.Tie as tie
 

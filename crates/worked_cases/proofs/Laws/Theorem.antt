@@ -7,6 +7,7 @@ use lib.ListN.{take}
 use lib.IntN.{ℤ}
 use lib.Ieee.{ofBits, toBits}
 use Rattle.arithmetic.specs.Bools.{all, any}
+use Rattle.arithmetic.specs.Mask.{mask}
 use Rattle.arithmetic.specs.Sum.{sum}
 use Rattle.arithmetic.specs.Integer.{sumℤ}
 use Rattle.arithmetic.specs.Refusal.{refusal}
@@ -14,12 +15,15 @@ use Rattle.arithmetic.specs.Table.{tab, rows, appended}
 use Rattle.vertex_set.specs.Lowest.{lowest}
 use Rattle.rooted_tree.specs.Chain.{climb, below, depth}
 use Rattle.graph.specs.Graph.{joined, edgeLength}
+use Rattle.graph.specs.Distance.{via, distance}
 use Rattle.graph.specs.Checks.{verticesOk, listsFit, edgeFits, lengthFits, reached, connected, sizeChecks, edgeChecks}
 use Rattle.tree_walks.specs.MarkAncestors.{markRefusal, markedWords, markTable, markEach}
 use Rattle.tree_checks.specs.Checks.{parentsOk, treeEdgesOk, chainsOk, treeChecks}
 use Rattle.skin_weights.specs.Weight.{inUnitInterval, wholeGrains, amountOf, weightOf}
 use Rattle.skin_weights.specs.Lists.{amountsRefusal, weightsRefusal, amountsOf, weightsOf, amountsTable, weightsTable}
 use Rattle.measures.specs.Checks.{totalOk, totalsEqual, measureChecks}
+use Rattle.distance_queries.specs.Within.{withinRefusal, wordWithin}
+use Rattle.distance_queries.specs.Nearest.{nearestRefusal, nearer, nearest}
 use Rattle.given_tree.specs.Given.{parentsLong, answersOk}
 use Rattle.plan_rule.specs.Plan.{moved, matched, layer, layers, plan, moves}
 use Rattle.tree_figures.specs.Figures.{imbalance, potential, treeCost}
@@ -44,6 +48,7 @@ use Rattle.worked_cases.specs.Figures.{sames, certifies, holds, reads, e
 use Rattle.worked_cases.specs.Cases.{image-b, cases, images}
 use Rattle.worked_cases.specs.Marks.{marked, mark-cases}
 use Rattle.worked_cases.specs.Images.{writes, rewrites, write-cases, rewrite-cases}
+use Rattle.worked_cases.specs.Queries.{reaches, finds, within-cases, nearest-cases}
 use Rattle.worked_cases.specs.Weights.{turnsIn, turnsOut, weight-cases, amount-cases}
 
 pub cases-hold : every holds cases && every reads images ≡ true
@@ -69,3 +74,8 @@ weights-hold = refl
 pub images-written : every writes write-cases && every rewrites rewrite-cases ≡ true
 unfolding all sum tab rows appended refusal verticesOk listsFit sizeChecks two byteOf sizeOk sectionOk layoutOk imageChecks header packed section imageBytes tablesOk numbersOk writeChecks rewriteRefusal sames every writes rewrites
 images-written = refl
+
+-- and its queries by distance
+pub queries-answered : every reaches within-cases && every finds nearest-cases ≡ true
+unfolding all any sum tab joined edgeLength refusal verticesOk listsFit edgeFits lengthFits reached connected sizeChecks edgeChecks totalOk mask via distance withinRefusal wordWithin nearestRefusal nearer nearest every reaches finds
+queries-answered = refl

@@ -97,12 +97,25 @@ pub fn check_graph(problem: &Problem) -> Result<(), u32> {
     refuse_if(5, component.iter().any(|&c| c != component[0]))
 }
 
+fn total(list: &[u64]) -> u128 {
+    list.iter().map(|&x| u128::from(x)).sum()
+}
+
 /// Checks 6 and 7.
 pub fn check_measures(problem: &Problem) -> Result<(), u32> {
-    let total = |list: &[u64]| list.iter().map(|&x| u128::from(x)).sum::<u128>();
     let (mu, nu) = (total(&problem.mu), total(&problem.nu));
     refuse_if(6, mu.max(nu) > u128::from(MAX_TOTAL))?;
     refuse_if(7, mu != nu)
+}
+
+/// Check 6, of one measure.
+pub fn check_painting(amounts: &[u64]) -> Result<(), u32> {
+    refuse_if(6, total(amounts) > u128::from(MAX_TOTAL))
+}
+
+/// Check 17.
+pub fn check_start(n: usize, start: usize) -> Result<(), u32> {
+    refuse_if(17, start >= n)
 }
 
 /// Checks 8, 9 and 10, where there is a tree.

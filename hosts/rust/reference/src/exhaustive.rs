@@ -65,3 +65,22 @@ pub fn least_plan_cost(problem: &Problem, distances: &[u64]) -> u64 {
     let (mut rows, mut columns) = (problem.mu.clone(), problem.nu.clone());
     fill(problem.n, 0, &mut rows, &mut columns, distances).expect("totals are equal")
 }
+
+/// The least length over all paths from a vertex to each, by trying every path that meets no vertex twice; none
+/// where there is no path.
+pub fn least_paths(problem: &Problem, from: usize) -> Vec<Option<u64>> {
+    fn go_on(problem: &Problem, at: usize, length: u64, met: &mut [bool], least: &mut [Option<u64>]) {
+        least[at] = Some(least[at].map_or(length, |l| l.min(length)));
+        met[at] = true;
+        for e in problem.edges.iter().filter(|e| e.a == at || e.b == at) {
+            let next = e.a + e.b - at;
+            if !met[next] {
+                go_on(problem, next, length + e.length, met, least);
+            }
+        }
+        met[at] = false;
+    }
+    let (mut met, mut least) = (vec![false; problem.n], vec![None; problem.n]);
+    go_on(problem, from, 0, &mut met, &mut least);
+    least
+}

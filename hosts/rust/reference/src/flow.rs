@@ -7,11 +7,14 @@ const FAR: i64 = i64::MAX / 4;
 /// Distances from every vertex to every other (Dijkstra from each), row i from place i × n.
 pub fn distances(problem: &Problem) -> Vec<u64> {
     let network = Network::new(problem);
-    let zero = vec![0; problem.n];
     (0..problem.n)
-        .flat_map(|source| network.shortest(source, &zero).0)
-        .map(|d| d as u64)
+        .flat_map(|source| network.distances(source))
         .collect()
+}
+
+/// Distances from one vertex to every other.
+pub fn distances_from(problem: &Problem, source: usize) -> Vec<u64> {
+    Network::new(problem).distances(source)
 }
 
 /// The least cost of a plan for an accepted problem.
@@ -89,6 +92,12 @@ impl Network {
         let end = if direction > 0 { b } else { a };
         let against = self.flow[k] * direction < 0;
         (end, if against { -length } else { length })
+    }
+
+    /// Dijkstra by lengths, where nothing flows.
+    fn distances(&self, source: usize) -> Vec<u64> {
+        let (distance, _) = self.shortest(source, &vec![0; self.n]);
+        distance.into_iter().map(|d| d as u64).collect()
     }
 
     /// Dijkstra by reduced cost: the distances and the edge, with direction, by which each vertex is reached.

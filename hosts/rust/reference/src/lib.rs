@@ -7,14 +7,16 @@
 //! | [`checks`] | the refusal numbers, by the table of the specification |
 //! | [`lists`] | the arguments of the calls over tables, and their refusals |
 //! | [`writer`] | the image that is written of such lists, and an image written anew |
+//! | [`queries`] | the vertices within reach of a start, and the nearest one with paint |
 //! | [`weights`] | 32-bit floats and the grains that they stand for, from their bits |
 //! | [`tree`] | evaluation of a given spanning tree, word for word as defined |
 //! | [`flow`] | distances by Dijkstra, the least cost by successive shortest paths |
-//! | [`exhaustive`] | all spanning trees and all plans of a small problem |
+//! | [`exhaustive`] | all spanning trees, all plans and all paths of a small problem |
 //! | [`record`] | the host record, and the test that an answer is right |
 //! | [`random`] | random problems, valid and faulty, and damaged images |
 //! | [`random_lists`] | random arguments of the calls over tables |
 //! | [`random_writer`] | random arguments of the writer, and images with anything between their sections |
+//! | [`random_queries`] | random questions from a start, and ones with faults |
 //! | [`random_trees`] | spanning trees: best ones, nearly best ones, and those where descent stalls |
 //! | [`runs`] | how many cases a test runs, and from which seed |
 //!
@@ -25,8 +27,10 @@ pub mod exhaustive;
 pub mod flow;
 pub mod lists;
 pub mod problem;
+pub mod queries;
 pub mod random;
 pub mod random_lists;
+pub mod random_queries;
 pub mod random_trees;
 pub mod random_writer;
 pub mod record;

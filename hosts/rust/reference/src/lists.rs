@@ -1,6 +1,6 @@
 //! The arguments of the calls over tables: which are accepted, and the refusal numbers of the others.
 
-use crate::checks::{check_graph, check_measures, check_tree, refuse_if};
+use crate::checks::{check_graph, check_measures, check_painting, check_start, check_tree, refuse_if};
 use crate::problem::{Edge, Problem, Tree};
 
 /// The lists that calls are lent, of any length and with any numbers.
@@ -94,6 +94,23 @@ impl Lists {
         check_graph(&problem)?;
         check_measures(&problem)?;
         check_tree(&problem)?;
+        Ok(problem)
+    }
+
+    /// The same of the call for the vertices within reach of a start.
+    pub fn accept_within(&self, start: usize) -> Result<Problem, u32> {
+        let problem = self.sized(|_| true)?;
+        check_graph(&problem)?;
+        check_start(problem.n, start)?;
+        Ok(problem)
+    }
+
+    /// The same of the call for the nearest vertex, of which `mu` is the one painting.
+    pub fn accept_nearest(&self, start: usize) -> Result<Problem, u32> {
+        let problem = self.sized(|n| self.mu.len() == n)?;
+        check_graph(&problem)?;
+        check_painting(&problem.mu)?;
+        check_start(problem.n, start)?;
         Ok(problem)
     }
 }

@@ -81,7 +81,7 @@ fn resize<T: Clone + Default>(random: &mut Random, list: &mut Vec<T>) {
 }
 
 /// A number that becomes the given one if it is cut to 8 or 16 bits, or the greatest.
-fn wide(random: &mut Random, value: u32) -> u32 {
+pub(crate) fn wide(random: &mut Random, value: u32) -> u32 {
     random.pick(&[value | 1 << 8, value | 1 << 16, value | 1 << 31, u32::MAX])
 }
 

@@ -168,7 +168,7 @@ fn other_length(random: &mut Random, length: usize) -> usize {
     }
 }
 
-fn lengthen(random: &mut Random, list: &mut Vec<impl Clone + From<u8>>) {
+pub(crate) fn lengthen(random: &mut Random, list: &mut Vec<impl Clone + From<u8>>) {
     let length = other_length(random, list.len());
     list.resize(length, 7.into());
 }

@@ -10,6 +10,7 @@
 //! | `rewriter` | `mover_rewrite` |
 //! | `trees` | the tree by value |
 //! | `ancestors` | `mover_mark_ancestors` |
+//! | `queries` | `mover_vertices_within`, `mover_nearest_vertex` |
 //! | `weights` | `mover_to_amounts`, `mover_to_weights` |
 //!
 //! Tests whose names begin with `wrong_` make calls wrong on purpose, and want the others to notice.
@@ -23,6 +24,7 @@ mod images;
 mod jobs;
 mod lent;
 mod one_place;
+mod queries;
 mod reader;
 mod rewriter;
 mod spoils;
@@ -30,6 +32,7 @@ mod tables;
 mod trees;
 mod weights;
 mod writer;
+mod wrong_queries;
 mod wrong_rewriter;
 mod wrong_tables;
 mod wrong_weights;

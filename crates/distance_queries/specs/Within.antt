@@ -15,7 +15,7 @@ use Rattle.graph.specs.Distance.{distance}
 unfoldable pub withinRefusal : Graph → (start : ℕ) → ℕ
 withinRefusal g start = refusal (graphChecks g true ++ (check 17 (ltb start (g .n)) ∷ []))
 
--- the word; "the start itself counts", at distance 0
+-- the word; "the start itself counts", at distance 0, and a distance "follow[s] the shortest lengths, seams included"
 unfoldable pub wordWithin : Graph → (start reach : ℕ) → ℕ
 wordWithin g start reach = mask (g .n) (λ v. leb (distance g start v) reach)
 

@@ -1,16 +1,20 @@
 /* What the header promises and the example does not show: tables between guard places, every refusal number of every call with all
  * tables as lent, empty tables without an address, images at odd addresses, images written and rewritten against images that are built
  * here without the library, damaged images and trees, climbs in any order on any words, every amount as a weight and back, weights of
- * any bits, what is within reach and nearest against ways that are found here, and the stack that a call uses.
+ * any bits, what is within reach and nearest against ways that are found here, reports on sequences against reports that are made here
+ * image by image, reels damaged at every place, and the stack that a call uses.
  * A line for each group, and "N passed, M failed" last. */
 #define _POSIX_C_SOURCE 200112L
 #include "mover.h"
 
+#include <fcntl.h>
 #include <limits.h>
 #include <pthread.h>
 #include <stdio.h>
 #include <stdlib.h>
 #include <string.h>
+#include <sys/mman.h>
+#include <unistd.h>
 
 static unsigned looked, faults; /* of the group that runs */
 
@@ -19,6 +23,7 @@ static void expect(int holds, const char *what, const char *where, unsigned numb
   if (holds) return;
   faults++;
   printf("not so: %s, %s %u\n", what, where, number);
+  fflush(stdout); /* a wrong call may be the last one */
 }
 
 /* ---- a lent table: a block of bytes that no call would write, of which the middle is lent */
@@ -109,7 +114,7 @@ static const problem problems[] = {
     {"parents 0 0 0", 9, 3, 2, 2, 2, {0, 1}, {1, 2}, {1, 1}, 3, 3, {1}, {0, 0, 1}, 0, 3, {0, 0, 0}},
     {"parents 0 2 1", 10, 3, 2, 2, 2, {0, 1}, {1, 2}, {1, 1}, 3, 3, {1}, {0, 0, 1}, 0, 3, {0, 2, 1}},
 };
-enum { CASE_A = 0, CASE_B = 1, NO_VERTEX = 4, MANY_VERTICES = 5, MANY_EDGES = 9 };
+enum { CASE_A = 0, CASE_B = 1, CASE_E = 3, NO_VERTEX = 4, MANY_VERTICES = 5, MANY_EDGES = 9, EDGE_TWICE = 12 };
 enum { PROBLEMS = sizeof problems / sizeof problems[0], CYCLE = PROBLEMS - 1 };
 
 static uint32_t up_to(uint32_t number, uint32_t last) {
@@ -313,6 +318,31 @@ static void check_empty_brushes(void) {
          "mover_nearest_vertex", vertex);
 }
 
+/* No reel, no count, no tally, and no images. */
+static void check_empty_reports(void) {
+  static const uint8_t none[2] = {0, 0};
+  uint32_t places[24], accepted = 99;
+  uint64_t sum = 99, greatest = 99;
+  size_t first = 99;
+  expect(mover_report(NULL, 0, NULL, 0, &accepted, &sum, &greatest, &first) == 14, "nothing at all",
+         "mover_report", 14);
+  expect(accepted == 0 && sum == 0 && greatest == 0 && first == 0, "results 0", "mover_report", 14);
+  expect(mover_report(NULL, 0, places, 24, &accepted, &sum, &greatest, &first) == 14, "no reel",
+         "mover_report", 14);
+  expect(mover_report(none, 1, NULL, 0, &accepted, &sum, &greatest, &first) == 14, "half a count",
+         "mover_report", 14);
+  accepted = 99;
+  sum = greatest = first = 99;
+  expect(mover_report(none, 2, NULL, 0, &accepted, &sum, &greatest, &first) == 2, "no tally",
+         "mover_report", 2);
+  expect(accepted == 0 && sum == 0 && greatest == 0 && first == 0, "results 0", "mover_report", 2);
+  accepted = 99;
+  sum = greatest = first = 99;
+  expect(mover_report(none, 2, places, 24, &accepted, &sum, &greatest, &first) == 0, "no images",
+         "mover_report", 0);
+  expect(accepted == 0 && sum == 0 && greatest == 0 && first == 0, "results 0", "mover_report", 0);
+}
+
 /* Tables of length 0 need no address. */
 static void check_empty(void) {
   uint64_t seven = 7, cost = 99;
@@ -340,6 +370,7 @@ static void check_empty(void) {
   expect(mover_run(NULL, 0, NULL, 0) == 11, "nothing at all", "mover_run", 0);
   check_empty_images();
   check_empty_brushes();
+  check_empty_reports();
   tree = mover_tree_new(3, 1, NULL, 0);
   expect(tree.n == 3 && tree.root == 1 && tree.parents[2] == 0 && mover_tree_parent(tree, 1) == 64, "no parents", "mover_tree_new", 0);
 }
@@ -2189,13 +2220,841 @@ static void check_brushes(void) {
   check_spoiled_answers();
 }
 
-/* Every number but 14 has a text of its own. */
+/* ---- sequences of images (reels), and reports on them */
+
+/* A number of so many bytes, the least one first. */
+static uint64_t get(const uint8_t *from, size_t bytes) {
+  uint64_t value = 0;
+  while (bytes-- > 0) value = value << 8 | from[bytes];
+  return value;
+}
+
+static uint64_t start_of(const uint8_t *reel, size_t i) {
+  return get(reel + 2 + 8 * i, 4);
+}
+
+static uint64_t end_of(const uint8_t *reel, size_t i) {
+  return start_of(reel, i) + get(reel + 6 + 8 * i, 4);
+}
+
+/* What a call is to return and to leave. */
+typedef struct report {
+  uint32_t number, tally[24], accepted;
+  uint64_t sum, greatest;
+  size_t first;
+} report;
+
+/* The number of a reel and a tally of so many places. */
+static uint32_t report_number(const uint8_t *reel, size_t length, size_t room) {
+  size_t directory, i;
+  if (length < 2) return 14;
+  directory = 2 + 8 * get(reel, 2);
+  if (length < directory) return 14;
+  for (i = 0; i < get(reel, 2); i++) {
+    if (start_of(reel, i) < directory || end_of(reel, i) > length) return 14;
+    if (i > 0 && start_of(reel, i) < end_of(reel, i - 1)) return 14;
+  }
+  return room < 24 ? 2 : 0;
+}
+
+/* The report, from what mover_run says of each image. */
+static report make_report(const uint8_t *reel, size_t length, size_t room) {
+  static uint8_t record[MOVER_RECORD_MAX];
+  static uint32_t numbers[65535];
+  static uint64_t costs[65535];
+  report r;
+  size_t count, i;
+  memset(&r, 0, sizeof r);
+  r.number = report_number(reel, length, room);
+  if (r.number != MOVER_OK) return r;
+  count = r.first = get(reel, 2);
+  for (i = 0; i < count; i++) {
+    size_t start = start_of(reel, i);
+    numbers[i] = mover_run(reel + start, end_of(reel, i) - start, record, sizeof record);
+    costs[i] = numbers[i] == MOVER_OK ? get(record, 8) : 0;
+    r.tally[numbers[i]]++;
+    r.sum += costs[i];
+    if (costs[i] > r.greatest) r.greatest = costs[i];
+  }
+  r.accepted = r.tally[0];
+  for (i = count; i-- > 0;)
+    if (numbers[i] == MOVER_OK && costs[i] == r.greatest) r.first = i;
+  return r;
+}
+
+/* What a call left: its number, and the block with its tally and its single results, all amid guard places.
+ * The tally starts `shift` bytes late: by 4 it is aligned for no longer type than its own. */
+enum { TALLY_AT = 64, ACCEPTED_AT = 256, SUM_AT = 272, GREATEST_AT = 296, FIRST_AT = 320, BLOCK = 352 };
+
+typedef struct left {
+  uint32_t number;
+  size_t shift;
+  uint64_t block[BLOCK / 8];
+} left;
+
+/* The block after a call, or before it: then no bit of a single result is as it is to be. */
+static void lay_out(uint8_t *block, size_t shift, const report *r, bool after) {
+  uint64_t flip = after ? 0 : UINT64_MAX;
+  size_t i;
+  for (i = 0; i < BLOCK; i++) block[i] = mark(i);
+  if (after && r->number == MOVER_OK)
+    for (i = 0; i < 24; i++) put(block + TALLY_AT + shift + 4 * i, r->tally[i], 4);
+  put(block + ACCEPTED_AT, r->accepted ^ flip, 4);
+  put(block + SUM_AT, r->sum ^ flip, 8);
+  put(block + GREATEST_AT, r->greatest ^ flip, 8);
+  put(block + FIRST_AT, r->first ^ flip, 8);
+}
+
+/* What is not as wanted, or NULL. */
+static const char *wrong_in_report(const left *l, const report *wanted) {
+  const uint8_t *block = (const uint8_t *)l->block;
+  uint8_t all[BLOCK];
+  lay_out(all, l->shift, wanted, true);
+  if (l->number != wanted->number) return "the number";
+  if (memcmp(block, all, ACCEPTED_AT) != 0) return "the tally";
+  if (memcmp(block + ACCEPTED_AT, all + ACCEPTED_AT, 4) != 0) return "accepted";
+  if (memcmp(block + SUM_AT, all + SUM_AT, 8) != 0) return "the sum";
+  if (memcmp(block + GREATEST_AT, all + GREATEST_AT, 8) != 0) return "the greatest cost";
+  if (memcmp(block + FIRST_AT, all + FIRST_AT, 8) != 0) return "the first image that has it";
+  return memcmp(block, all, BLOCK) == 0 ? NULL : "the places round the results";
+}
+
+static void ask_report(left *l, const uint8_t *reel, size_t length, size_t room, size_t shift,
+                       const report *wanted) {
+  uint8_t *block = (uint8_t *)l->block;
+  uint32_t *places = room > 0 ? (uint32_t *)(block + TALLY_AT + shift) : NULL;
+  lay_out(block, shift, wanted, false);
+  l->shift = shift;
+  l->number = mover_report(reel, length, places, room, (uint32_t *)(block + ACCEPTED_AT),
+                           (uint64_t *)(block + SUM_AT), (uint64_t *)(block + GREATEST_AT),
+                           (size_t *)(block + FIRST_AT));
+}
+
+static void expect_report(const char *name, const uint8_t *reel, size_t length, size_t room, size_t shift,
+                          const report *wanted) {
+  left l;
+  const char *wrong;
+  ask_report(&l, reel, length, room, shift, wanted);
+  wrong = wrong_in_report(&l, wanted);
+  expect(wrong == NULL, wrong ? wrong : "", name, l.number);
+}
+
+enum { STAGE = 5 << 20 }; /* room for each reel but the longest */
+
+/* A copy that ends where readable memory ends. */
+static uint8_t *copy_to_border(const uint8_t *bytes, size_t length) {
+  static uint8_t *border;
+  if (border == NULL) {
+    size_t page = (size_t)sysconf(_SC_PAGESIZE);
+    void *block;
+    if (posix_memalign(&block, page, STAGE + page) != 0) abort();
+    border = (uint8_t *)block + STAGE;
+    if (mprotect(border, page, PROT_NONE) != 0) abort();
+  }
+  memcpy(border - length, bytes, length);
+  return border - length;
+}
+
+/* A call on a reel where it stands, and one on a copy behind which nothing can be read, each with a tally of
+ * so many places; returns what they are to leave. */
+static report check_report(const char *name, const uint8_t *reel, size_t length, size_t room) {
+  uint8_t *copy = copy_to_border(reel, length);
+  report wanted = make_report(reel, length, room);
+  expect_report(name, reel, length, room, 0, &wanted);
+  expect(!memcmp(reel, copy, length), "the reel as it was", name, wanted.number);
+  expect_report(name, copy, length, room, 4, &wanted);
+  expect(!memcmp(reel, copy, length), "the copy as it was", name, wanted.number);
+  return wanted;
+}
+
+/* The same, where the report is told by hand: that which is made here must be so too. */
+static void check_told_report(const char *name, const uint8_t *reel, size_t length, size_t room,
+                              const report *told) {
+  report r = check_report(name, reel, length, room);
+  expect(!memcmp(&r, told, sizeof r), "a report told", name, r.number);
+}
+
+/* A refusal leaves 0. */
+static const report refused_by_14 = {14, {0}, 0, 0, 0, 0}, refused_by_2 = {2, {0}, 0, 0, 0, 0};
+
+/* One image more in a report that is told, in which `first` is the count at the start. */
+static void tell(report *told, size_t i, uint32_t number, uint64_t cost) {
+  told->tally[number]++;
+  if (number != MOVER_OK) return;
+  if (told->accepted == 0 || cost > told->greatest) {
+    told->greatest = cost;
+    told->first = i;
+  }
+  told->accepted++;
+  told->sum += cost;
+}
+
+/* A reel that is being built; only one is at a time. */
+typedef struct built {
+  uint8_t *bytes;
+  size_t length, pairs;
+} built;
+
+/* A reel of so many images, `shift` bytes past an address that is aligned for every type. */
+static built start_reel(size_t count, size_t shift) {
+  static uint64_t stage[STAGE / 8];
+  built r;
+  r.bytes = (uint8_t *)stage + shift;
+  r.length = 2 + 8 * count;
+  r.pairs = 0;
+  put(r.bytes, count, 2);
+  return r;
+}
+
+static uint8_t *leave_gap(built *r, size_t bytes) {
+  r->length += put_filler(r->bytes + r->length, bytes, (uint8_t)(r->length + 3));
+  return r->bytes + r->length;
+}
+
+static void put_pair(built *r, size_t i, uint64_t start, uint64_t size) {
+  put(r->bytes + 2 + 8 * i, start, 4);
+  put(r->bytes + 6 + 8 * i, size, 4);
+}
+
+/* The pair of an image that stands where the gap ended. */
+static void add_pair(built *r, size_t size) {
+  put_pair(r, r->pairs++, r->length, size);
+  r->length += size;
+}
+
+/* 16,777,216 grains from the first to the last of n vertices in a line, each edge 65,535 long: case F if n is
+ * 2, and the greatest cost of all if n is 64. */
+static void fill_line(problem *p, size_t n) {
+  size_t i;
+  memset(p, 0, sizeof *p);
+  p->n = n;
+  p->a_len = n - 1;
+  p->mu[0] = p->nu[n - 1] = 16777216;
+  for (i = 0; i + 1 < n; i++) {
+    p->a[i] = p->parents[i + 1] = (uint32_t)i;
+    p->b[i] = (uint32_t)i + 1;
+    p->lengths[i] = 65535;
+  }
+}
+
+/* Kinds of images: of each problem without and with its tree, of case A with each damage, and further ones. */
+enum { DAMAGES = sizeof damages / sizeof damages[0], DAMAGED = 2 * PROBLEMS };
+enum {
+  NO_BYTES = DAMAGED + DAMAGES,
+  CASE_F,
+  CASE_F_TREE,
+  LINE,
+  LINE_TREE,
+  FULL,     /* 65,536 bytes */
+  OVERFULL, /* 65,537 bytes */
+  KINDS
+};
+
+/* An image of this kind; returns its length. */
+static size_t put_image(size_t kind, uint8_t *to) {
+  static problem p;
+  layout l = back_to_back;
+  if (kind < DAMAGED) return build_image(&problems[kind / 2], kind % 2 == 1, &l, to);
+  if (kind < NO_BYTES) {
+    const struct damage *d = &damages[kind - DAMAGED];
+    uint8_t image[sizeof image_a];
+    memcpy(image, image_a, sizeof image);
+    image[d->at] = d->byte;
+    image[d->other_at] = d->other_byte;
+    memcpy(to, image, sizeof image - d->cut);
+    return sizeof image - d->cut;
+  }
+  if (kind == NO_BYTES) return 0;
+  if (kind == FULL || kind == OVERFULL) {
+    l.behind = 65536 - sizeof image_a + (kind == OVERFULL);
+    return build_image(&problems[CASE_A], true, &l, to);
+  }
+  fill_line(&p, kind < LINE ? 2 : 64);
+  return build_image(&p, kind == CASE_F_TREE || kind == LINE_TREE, &l, to);
+}
+
+/* Its number, told from the tables: an image has one list of edges, and two bytes for a length. */
+static uint32_t told_number(size_t kind) {
+  const problem *p = &problems[kind < DAMAGED ? kind / 2 : 0];
+  if (kind >= NO_BYTES) return kind == NO_BYTES || kind == OVERFULL ? 11 : 0;
+  if (kind >= DAMAGED) return damages[kind - DAMAGED].number;
+  if (p->number == 2 && p->a_len <= 512) return p->a_len == 0 ? 5 : 0;
+  if (p->number == 4) return 0;
+  return kind % 2 == 1 ? p->number : up_to(p->number, 7);
+}
+
+static void add_image(built *r, size_t gap, size_t kind) {
+  add_pair(r, put_image(kind, leave_gap(r, gap)));
+}
+
+/* A reel that stands here byte for byte: an image that is refused by 3, one of no bytes and, behind a gap of
+ * one byte, case A's. */
+static void check_literal_reel(void) {
+  static const uint8_t directory[26] = {
+      3,  0,                    /* the count */
+      26, 0, 0, 0, 50, 0, 0, 0, /* offset and length */
+      76, 0, 0, 0, 0,  0, 0, 0, /* no bytes */
+      77, 0, 0, 0, 85, 0, 0, 0,
+  };
+  static const report told = {0, {1, 0, 0, 1, 0, 0, 0, 0, 0, 0, 0, 1}, 1, 22, 22, 2};
+  uint8_t bytes[162];
+  memcpy(bytes, directory, 26);
+  memcpy(bytes + 26, image_bytes, 50);
+  bytes[76] = 255;
+  memcpy(bytes + 77, image_a, 85);
+  check_told_report("byte for byte", bytes, 162, 24, &told);
+  check_told_report("byte for byte", bytes, 161, 24, &refused_by_14);
+  check_told_report("byte for byte", bytes, 162, 23, &refused_by_2);
+  expect(MOVER_REEL_DIRECTORY(0) == 2 && MOVER_REEL_DIRECTORY(3) == 26, "MOVER_REEL_DIRECTORY", "of", 3);
+  expect(MOVER_REEL_DIRECTORY((uint16_t)65535) == 524282, "MOVER_REEL_DIRECTORY", "of", 65535);
+  expect(MOVER_TALLY_PLACES == 24, "MOVER_TALLY_PLACES", "is", MOVER_TALLY_PLACES);
+  expect(MOVER_REFUSED_SEQUENCE_DIRECTORY == 14, "MOVER_REFUSED_SEQUENCE_DIRECTORY", "is", 14);
+}
+
+/* Images whose number and cost are told. Sequences are made of the first ones. */
+static const struct told_image {
+  size_t kind;
+  uint32_t number;
+  uint64_t cost;
+} told_images[] = {
+    {NO_BYTES, 11, 0},
+    {2 * EDGE_TWICE, 3, 0},
+    {2 * CASE_E, 0, 0},
+    {2 * CASE_B, 0, 4},
+    {2 * CASE_B + 1, 0, 12},
+    {CASE_F, 0, 1099494850560},
+    {CASE_F_TREE, 0, 1099494850560},
+    {LINE, 0, 69268175585280}, /* 63 * 65,535 * 2^24 */
+    {LINE_TREE, 0, 69268175585280},
+    {FULL, 0, 22},
+};
+enum { TOLD_IMAGES = sizeof told_images / sizeof told_images[0], IN_SEQUENCES = 6 };
+
+/* So many of them in a reel. */
+static void check_told_sequence(const size_t *images, size_t count, size_t gap) {
+  report told;
+  built r = start_reel(count, count % 8);
+  size_t i;
+  memset(&told, 0, sizeof told);
+  told.first = count;
+  for (i = 0; i < count; i++) {
+    const struct told_image *t = &told_images[images[i]];
+    add_image(&r, gap, t->kind);
+    tell(&told, i, t->number, t->cost);
+  }
+  check_told_report("images told", r.bytes, r.length, 24, &told);
+}
+
+/* Every two of them, and every sequence of up to five of the first ones: with none accepted, refused ones
+ * before, between and behind, all costs 0, the greatest cost once or more often, sums above 2^32. */
+static void check_sequences(void) {
+  size_t images[5], count, word, words = 1, i, j;
+  for (i = 0; i < TOLD_IMAGES; i++)
+    for (j = 0; j < TOLD_IMAGES; j++) {
+      images[0] = i;
+      images[1] = j;
+      check_told_sequence(images, 2, 3);
+    }
+  for (count = 0; count <= 5; count++, words *= IN_SEQUENCES)
+    for (word = 0; word < words; word++) {
+      size_t rest = word;
+      for (i = 0; i < count; i++, rest /= IN_SEQUENCES) images[i] = rest % IN_SEQUENCES;
+      check_told_sequence(images, count, word % 3);
+    }
+}
+
+/* Each kind alone, between two images of no bytes. */
+static void check_kinds(void) {
+  size_t kind;
+  for (kind = 0; kind < KINDS; kind++) {
+    uint32_t told = told_number(kind);
+    built r = start_reel(3, kind % 8);
+    report made;
+    add_image(&r, 0, NO_BYTES);
+    add_image(&r, 0, kind);
+    add_image(&r, 0, NO_BYTES);
+    made = check_report("each kind", r.bytes, r.length, 24);
+    expect(made.tally[told] == (told == 11 ? 3 : 1), "the number told", "of kind", (unsigned)kind);
+    expect(made.tally[11] == (told == 11 ? 3 : 2), "two of no bytes", "beside kind", (unsigned)kind);
+    expect(made.first == (told == 0 ? 1 : 3), "the index told", "of kind", (unsigned)kind);
+  }
+}
+
+/* All kinds in one reel, so that each number comes up that an image can have: in any order and with any gaps,
+ * at every place of eight bytes, with tallies of some lengths. */
+static void check_mixed(void) {
+  static const size_t rooms[7] = {24, 25, 30, 23, 22, 1, 0};
+  uint32_t order[KINDS], told[24];
+  size_t shift, i;
+  for (shift = 0; shift < 8; shift++) {
+    built r = start_reel(KINDS, shift);
+    report made;
+    memset(told, 0, sizeof told);
+    draw_order(KINDS, order);
+    for (i = 0; i < KINDS; i++) {
+      add_image(&r, draw_below(2) * draw_below(20), order[i]);
+      told[told_number(order[i])]++;
+    }
+    leave_gap(&r, shift);
+    for (i = 0; i < 24; i++)
+      expect((told[i] > 0) == (i < 14 && i != 4), "an image", "with number", (unsigned)i);
+    for (i = 0; i < 7; i++) {
+      made = check_report("all kinds", r.bytes, r.length, rooms[i]);
+      expect(made.number == (rooms[i] < 24 ? 2 : 0), "all kinds", "places", (unsigned)rooms[i]);
+      if (rooms[i] >= 24)
+        expect(!memcmp(made.tally, told, sizeof told), "the tally told", "places", (unsigned)rooms[i]);
+      made = check_report("all kinds, cut off", r.bytes, r.length - shift - 70000, rooms[i]);
+      expect(made.number == 14, "all kinds, cut off", "places", (unsigned)rooms[i]);
+    }
+  }
+}
+
+/* Small reels: four images back to back, with gaps, one of them with bytes, none with bytes; and one image. */
+static const struct small {
+  size_t count, kinds[4], gaps[5];
+} smalls[] = {
+    {4, {2 * CASE_E, NO_BYTES, 2 * CASE_B, 2 * CASE_E + 1}, {0}},
+    {4, {NO_BYTES, 2 * CASE_B + 1, 2 * EDGE_TWICE, NO_BYTES}, {8, 3, 0, 9, 4}},
+    {4, {NO_BYTES, NO_BYTES, NO_BYTES, 2 * CASE_E}, {0, 0, 0, 0, 1}},
+    {4, {NO_BYTES, NO_BYTES, NO_BYTES, NO_BYTES}, {5, 0, 6, 7, 2}},
+    {1, {2 * CASE_E}, {0, 3}},
+};
+enum { SMALLS = sizeof smalls / sizeof smalls[0] };
+
+static built small_reel(size_t which, size_t shift) {
+  const struct small *s = &smalls[which];
+  built r = start_reel(s->count, shift);
+  size_t i;
+  for (i = 0; i < s->count; i++) add_image(&r, s->gaps[i], s->kinds[i]);
+  leave_gap(&r, s->gaps[s->count]);
+  return r;
+}
+
+/* Each truncation, with what is cut off still behind the reel, and with nothing there. Behind the last image
+ * all may be cut off. */
+static void check_truncations(void) {
+  static const size_t rooms[3] = {24, 23, 0};
+  size_t which, length, i;
+  for (which = 0; which < SMALLS; which++) {
+    built r = small_reel(which, 7 - which);
+    for (length = 0; length <= r.length; length++)
+      for (i = 0; i < 3; i++) {
+        uint32_t told = length < end_of(r.bytes, r.pairs - 1) ? 14 : rooms[i] < 24 ? 2 : 0;
+        report made = check_report("cut off", r.bytes, length, rooms[i]);
+        expect(made.number == told, "cut off", "to bytes", (unsigned)length);
+      }
+  }
+}
+
+/* Of four images one pair changed, and the number: case E's has bytes 34 to 77, the next none, at 78, case B's
+ * bytes 83 to 166, the last none, at 170, and the reel ends with byte 173. */
+static const struct pair {
+  const char *name;
+  size_t pair;
+  uint64_t start, size;
+  uint32_t number;
+} pairs[] = {
+    {"as it is", 0, 34, 44, 0},
+    {"from 0", 0, 0, 44, 14},
+    {"from inside the count", 0, 1, 44, 14},
+    {"from the first pair", 0, 2, 44, 14},
+    {"from the directory's last byte", 0, 33, 44, 14},
+    {"from the directory's last byte, shorter", 0, 33, 1, 14},
+    {"one byte later", 0, 35, 44, 14},
+    {"one byte later, shorter", 0, 35, 43, 0},
+    {"one byte longer", 0, 34, 45, 14},
+    {"no bytes at the directory's end", 0, 34, 0, 0},
+    {"no bytes at the directory's last byte", 0, 33, 0, 14},
+    {"no bytes at 0", 0, 0, 0, 14},
+    {"no bytes at the next one's place", 0, 78, 0, 0},
+    {"no bytes behind the next one's place", 0, 79, 0, 14},
+    {"up to 2^32", 0, 34, 4294967262u, 14},
+    {"up to 2^32 + 33", 0, 34, 4294967295u, 14},
+    {"no bytes, as it is", 1, 78, 0, 0},
+    {"no bytes inside its forerunner", 1, 77, 0, 14},
+    {"no bytes where its forerunner starts", 1, 34, 0, 14},
+    {"no bytes inside the directory", 1, 33, 0, 14},
+    {"no bytes before the next one", 1, 83, 0, 0},
+    {"no bytes inside the next one", 1, 84, 0, 14},
+    {"no bytes past the end", 1, 174, 0, 14},
+    {"all of the gap", 1, 78, 5, 0},
+    {"more than the gap", 1, 78, 6, 14},
+    {"as it is", 2, 83, 84, 0},
+    {"from its forerunner's end", 2, 78, 84, 0},
+    {"from before its forerunner's end", 2, 77, 84, 14},
+    {"from inside the directory", 2, 33, 84, 14},
+    {"up to the next one", 2, 86, 84, 0},
+    {"up to behind the next one", 2, 87, 84, 14},
+    {"longer, up to the next one", 2, 83, 87, 0},
+    {"longer, up to behind the next one", 2, 83, 88, 14},
+    {"from 2^32 - 84", 2, 4294967212u, 84, 14},
+    {"from 2^32 - 1", 2, 4294967295u, 84, 14},
+    {"from 2^31", 2, 2147483648u, 84, 14},
+    {"2^31 bytes", 2, 83, 2147483648u, 14},
+    {"up to 2^32", 2, 83, 4294967213u, 14},
+    {"up to 2^32 + 82", 2, 83, 4294967295u, 14},
+    {"no bytes, as it is", 3, 170, 0, 0},
+    {"no bytes at its forerunner's end", 3, 167, 0, 0},
+    {"no bytes inside its forerunner", 3, 166, 0, 14},
+    {"no bytes at the end", 3, 174, 0, 0},
+    {"no bytes past the end", 3, 175, 0, 14},
+    {"up to the end", 3, 170, 4, 0},
+    {"up to past the end", 3, 170, 5, 14},
+    {"the last byte", 3, 173, 1, 0},
+    {"the last byte and one more", 3, 173, 2, 14},
+    {"one byte past the end", 3, 174, 1, 14},
+    {"no bytes at 2^32 - 1", 3, 4294967295u, 0, 14},
+    {"one byte at 2^32 - 1", 3, 4294967295u, 1, 14},
+    {"171 bytes at 2^32 - 1", 3, 4294967295u, 171, 14},
+    {"2^32 - 1 bytes at 2^32 - 1", 3, 4294967295u, 4294967295u, 14},
+    {"up to 2^32", 3, 170, 4294967126u, 14},
+    {"up to 2^32 + 169", 3, 170, 4294967295u, 14},
+    {"no bytes at 0", 3, 0, 0, 14},
+};
+
+static void check_told_pairs(void) {
+  size_t k, room;
+  for (k = 0; k < sizeof pairs / sizeof pairs[0]; k++) {
+    const struct pair *c = &pairs[k];
+    built r = start_reel(4, k % 8);
+    add_image(&r, 0, 2 * CASE_E);
+    add_image(&r, 0, NO_BYTES);
+    add_image(&r, 5, 2 * CASE_B);
+    add_image(&r, 3, NO_BYTES);
+    leave_gap(&r, 4);
+    expect(r.length == 174 && end_of(r.bytes, 2) == 167, "the reel's length", c->name, (unsigned)r.length);
+    put_pair(&r, c->pair, c->start, c->size);
+    for (room = 22; room < 26; room++) {
+      report made = check_report(c->name, r.bytes, r.length, room);
+      expect(made.number == (c->number == 0 && room < 24 ? 2 : c->number), c->name, "pair", (unsigned)c->pair);
+    }
+  }
+}
+
+/* One offset or length changed: to each number up to some beyond the reel's length, to as many below 2^32, and
+ * in each bit. */
+static void check_changed_pairs(void) {
+  unsigned numbers[15] = {0};
+  size_t which, place, i;
+  for (which = 0; which < SMALLS; which++)
+    for (place = 0; place < 2 * smalls[which].count; place++) {
+      built r = small_reel(which, place);
+      uint8_t *at = r.bytes + 2 + 4 * place;
+      uint64_t was = get(at, 4), end = r.length + 3;
+      for (i = 0; i < 2 * end + 32; i++) {
+        uint64_t value = i < end ? i : UINT32_MAX - (i - end);
+        put(at, i < 2 * end ? value : was ^ (uint64_t)1 << (i - 2 * end), 4);
+        numbers[check_report("a changed pair", r.bytes, r.length, 24 + i % 2).number]++;
+      }
+    }
+  expect(numbers[0] > 300 && numbers[14] > 3000, "both numbers", "of changed pairs", numbers[0]);
+}
+
+/* Other counts on one reel: a lower one makes the rest of the directory a gap, and with a higher one the first
+ * image starts inside the directory. */
+static void check_counts(void) {
+  built r = start_reel(4, 3);
+  size_t count;
+  add_image(&r, 0, 2 * CASE_B);
+  add_image(&r, 2, 2 * CASE_E);
+  add_image(&r, 0, 2 * CASE_B);
+  add_image(&r, 1, NO_BYTES);
+  leave_gap(&r, 40);
+  for (count = 0; count <= 65535; count += count < 600 ? 1 : 97) {
+    report made;
+    put(r.bytes, count, 2);
+    made = check_report("a count", r.bytes, r.length, 24);
+    expect(made.number == (count <= 4 ? 0 : 14), "the number told", "count", (unsigned)count);
+    expect(made.accepted == (count > 4 ? 0 : count == 4 ? 3 : count), "as told", "count", (unsigned)count);
+  }
+}
+
+/* No images: two bytes, and a tail of any bytes. */
+static void check_no_images(void) {
+  static const report told = {0, {0}, 0, 0, 0, 0};
+  size_t bytes;
+  for (bytes = 0; bytes < 100; bytes++) {
+    built r = start_reel(0, bytes % 8);
+    leave_gap(&r, bytes);
+    check_told_report("no images", r.bytes, r.length, 24 + bytes % 7, &told);
+    check_told_report("no images", r.bytes, r.length, bytes % 24, &refused_by_2);
+  }
+}
+
+/* Long gaps and tails: reels of far more bytes than an image may have, images from beyond 2^16 and 2^20. */
+static void check_long_gaps(void) {
+  static const size_t gaps[6] = {0, 1, 1000, 65500, 65536, 1200000};
+  size_t i, j, k;
+  for (i = 0; i < 6; i++)
+    for (j = 0; j < 6; j++)
+      for (k = 0; k < 6; k += 5) {
+        report told = {0, {2, 0, 0, 1}, 2, 16, 12, 2};
+        built r = start_reel(3, (i + j) % 8);
+        add_image(&r, gaps[i], 2 * CASE_B);
+        add_image(&r, 0, 2 * EDGE_TWICE);
+        add_image(&r, gaps[j], 2 * CASE_B + 1);
+        leave_gap(&r, gaps[k]);
+        check_told_report("long gaps", r.bytes, r.length, 24, &told);
+        check_told_report("long gaps", r.bytes, end_of(r.bytes, 2) - 1, 24, &refused_by_14);
+      }
+}
+
+/* 65,535 images: all of no bytes, all but the last, and all but the last of case F. That sum is above 2^53 and
+ * no float of 64 bits. */
+static void check_many_images(void) {
+  report told = {0, {0}, 0, 0, 0, 65535};
+  built r = start_reel(65535, 1);
+  size_t i;
+  for (i = 0; i < 65535; i++) add_image(&r, 0, NO_BYTES);
+  told.tally[11] = 65535;
+  expect(r.length == 524282, "65535 images of no bytes", "bytes", (unsigned)r.length);
+  check_told_report("65535 images of no bytes", r.bytes, r.length, 24, &told);
+  check_told_report("65535 images of no bytes", r.bytes, r.length - 1, 24, &refused_by_14);
+  check_told_report("65535 images of no bytes", r.bytes, r.length, 23, &refused_by_2);
+  put_pair(&r, 0, r.length - 1, 0);
+  check_told_report("the first one inside the directory", r.bytes, r.length, 24, &refused_by_14);
+  put_pair(&r, 0, r.length, 0);
+  put_pair(&r, 65534, r.length - 1, 0);
+  check_told_report("the last one inside the directory", r.bytes, r.length, 24, &refused_by_14);
+  r.pairs = 65534;
+  add_image(&r, 0, 2 * CASE_E + 1);
+  told.tally[11]--;
+  told.tally[0] = told.accepted = 1;
+  told.first = 65534;
+  check_told_report("65534 images of no bytes", r.bytes, r.length, 24, &told);
+  r = start_reel(65535, 0);
+  for (i = 0; i < 65534; i++) add_image(&r, 0, i % 2 == 0 ? CASE_F : CASE_F_TREE);
+  add_image(&r, 0, 2 * CASE_A);
+  told.tally[0] = told.accepted = 65535;
+  told.tally[11] = 0;
+  told.greatest = 1099494850560;
+  told.sum = 72054295536599062; /* 65,534 times that, and 22 */
+  told.first = 0;
+  check_told_report("65535 images with bytes", r.bytes, r.length, 24, &told);
+  check_told_report("65535 images with bytes", r.bytes, r.length - 1, 24, &refused_by_14);
+}
+
+/* A reel of 2^32 + 55 bytes: zeros, which take memory only in the pages that are written. Its second image
+ * starts at 2^32 - 1 and ends with the reel. */
+static void check_longest_reel(void) {
+  static const report told = {0, {2}, 2, 1099494850564, 1099494850560, 1}, none = {0, {0}, 0, 0, 0, 0};
+  const size_t all = ((size_t)1 << 32) + 55, page = (size_t)sysconf(_SC_PAGESIZE);
+  int zeros = open("/dev/zero", O_RDONLY);
+  void *block = mmap(NULL, all, PROT_READ, MAP_PRIVATE, zeros, 0);
+  built r;
+  expect(zeros >= 0 && block != MAP_FAILED, "addresses for a reel", "of more bytes than", UINT32_MAX);
+  if (block == MAP_FAILED) return;
+  r.bytes = (uint8_t *)block;
+  expect_report("2^32 + 55 zeros", r.bytes, all, 24, 0, &none);
+  if (mprotect(r.bytes, page, PROT_READ | PROT_WRITE) != 0) abort();
+  if (mprotect(r.bytes + (all - 55 - page), 2 * page, PROT_READ | PROT_WRITE) != 0) abort();
+  put(r.bytes, 2, 2);
+  r.length = 18;
+  r.pairs = 0;
+  add_image(&r, 7, 2 * CASE_B);
+  r.length = UINT32_MAX;
+  add_image(&r, 0, CASE_F);
+  expect(r.length == all, "the longest reel", "bytes past 2^32:", (unsigned)(r.length - UINT32_MAX - 1));
+  expect_report("2^32 + 55 bytes", r.bytes, all, 24, 0, &told);
+  expect_report("2^32 + 54 bytes", r.bytes, all - 1, 24, 4, &refused_by_14);
+  expect_report("2^32 bytes", r.bytes, all - 55, 24, 0, &refused_by_14);
+  put(r.bytes + 2, UINT32_MAX, 4);
+  expect_report("two images at 2^32 - 1", r.bytes, all, 24, 4, &refused_by_14);
+  munmap(block, all);
+  close(zeros);
+}
+
+/* The parents of some tree on a patch's edges, from its root on. */
+static void find_tree(problem *p) {
+  bool joined[64] = {false}, more = true;
+  size_t e;
+  joined[p->root] = true;
+  p->parents[p->root] = (uint32_t)p->root;
+  while (more) {
+    more = false;
+    for (e = 0; e < p->a_len; e++) {
+      uint32_t x = p->a[e], y = p->b[e];
+      if (joined[x] == joined[y]) continue;
+      p->parents[joined[x] ? y : x] = joined[x] ? x : y;
+      joined[x] = joined[y] = more = true;
+    }
+  }
+}
+
+/* A sound image: the same amounts before and after, in another order. Half of the times it has a tree. */
+static size_t draw_sound_image(uint8_t *to) {
+  static problem p;
+  uint32_t order[64];
+  layout l = gap_at(draw_below(6), draw_below(2) * draw_below(30), (uint8_t)draw());
+  size_t v;
+  draw_patch(&p);
+  p.root = draw_below(p.n);
+  find_tree(&p);
+  draw_order(p.n, order);
+  for (v = 0; v < p.n; v++) p.mu[v] = draw_below(2) * draw_shorter(draw_below(16777216 / p.n + 1), 24);
+  for (v = 0; v < p.n; v++) p.nu[v] = p.mu[order[v]];
+  return build_image(&p, draw_below(2) == 0, &l, to);
+}
+
+/* An image of some kind, a sound one, one with up to three bits changed, or one of any numbers. */
+static size_t draw_image(uint8_t *to) {
+  static problem p;
+  size_t kind = draw_below(8), length, bits;
+  if (kind < 3) return put_image(draw_below(KINDS), to);
+  if (kind == 7) {
+    draw_problem(&p);
+    return build_image(&p, draw_below(2) == 0, &back_to_back, to);
+  }
+  length = draw_sound_image(to);
+  if (kind < 6) return length;
+  for (bits = draw_below(4); bits > 0; bits--) to[draw_below(length)] ^= (uint8_t)(1 << draw_below(8));
+  return length;
+}
+
+/* Some images, a part of which come twice, with gaps here and there. */
+static built draw_reel(void) {
+  size_t count = draw_below(12), last = 0, size, i;
+  built r = start_reel(count, draw_below(8));
+  for (i = 0; i < count; i++) {
+    uint8_t *to = leave_gap(&r, draw_below(3) == 0 ? draw_below(40) : 0);
+    if (last > 0 && draw_below(4) == 0) {
+      size = end_of(r.bytes, last - 1) - start_of(r.bytes, last - 1);
+      memcpy(to, r.bytes + start_of(r.bytes, last - 1), size);
+    } else {
+      size = draw_image(to);
+      last = i + 1;
+    }
+    add_pair(&r, size);
+  }
+  leave_gap(&r, draw_below(2) * draw_below(40));
+  return r;
+}
+
+/* An offset or length changed by little or to anything, two pairs exchanged, another count, a shorter reel. */
+static void damage_reel(built *r) {
+  size_t kind = draw_below(5), count = get(r->bytes, 2), i = draw_below(count + 1), j = draw_below(count + 1);
+  uint8_t *at = r->bytes + 2 + 8 * i + 4 * draw_below(2), pair[8];
+  if (kind == 3) put(r->bytes, count + draw_below(5) - 2, 2);
+  if (kind == 4) r->length -= draw_below(draw_below(2) == 0 || r->length < 60 ? r->length + 1 : 60);
+  if (kind > 2 || i == count || j == count) return;
+  if (kind == 0) put(at, get(at, 4) + draw_below(7) - 3, 4);
+  if (kind == 1) put(at, draw_shorter(draw() >> 32, 32), 4);
+  if (kind < 2) return;
+  memcpy(pair, r->bytes + 2 + 8 * i, 8);
+  memcpy(r->bytes + 2 + 8 * i, r->bytes + 2 + 8 * j, 8);
+  memcpy(r->bytes + 2 + 8 * j, pair, 8);
+}
+
+/* What came up: the numbers of the reports and of their images, and reports with the greatest cost more than
+ * once, with no image accepted, with the greatest cost not in the first image, with a sum above 2^32. */
+typedef struct seen {
+  unsigned reports[15], images[24], ties, none, later, high;
+} seen;
+
+/* Does an image behind the first one with the greatest cost have it too? */
+static bool has_tie(const uint8_t *reel, const report *made) {
+  static uint8_t record[MOVER_RECORD_MAX];
+  size_t i;
+  for (i = made->first + 1; i < get(reel, 2); i++) {
+    uint64_t start = start_of(reel, i);
+    uint32_t number = mover_run(reel + start, end_of(reel, i) - start, record, sizeof record);
+    if (number == MOVER_OK && get(record, 8) == made->greatest) return true;
+  }
+  return false;
+}
+
+static void count_report(const uint8_t *reel, const report *made, seen *s) {
+  size_t k;
+  s->reports[made->number]++;
+  if (made->number != MOVER_OK) return;
+  for (k = 0; k < 24; k++) s->images[k] += made->tally[k];
+  s->none += made->accepted == 0;
+  s->later += made->accepted > 0 && made->first > 0;
+  s->high += made->sum > UINT32_MAX;
+  s->ties += has_tie(reel, made);
+}
+
+/* Any reels, one in three of them damaged once or twice, some with a tally that is too short. */
+static void check_drawn_reels(void) {
+  seen s = {{0}, {0}, 0, 0, 0, 0};
+  size_t round, count, room, k;
+  for (round = 0; round < 2000; round++) {
+    built r = draw_reel();
+    report made;
+    for (count = draw_below(3) == 0 ? 1 + draw_below(2) : 0; count > 0; count--) damage_reel(&r);
+    room = draw_below(8) == 0 ? draw_below(24) : 24 + draw_below(7);
+    made = check_report("any reel", r.bytes, r.length, room);
+    count_report(r.bytes, &made, &s);
+  }
+  expect(s.reports[0] > 1000 && s.reports[2] > 100, "every number", "of reports", s.reports[2]);
+  expect(s.reports[14] > 300, "every number", "of reports", s.reports[14]);
+  for (k = 0; k < 24; k++)
+    expect(k < 14 && k != 4 ? s.images[k] > 10 : s.images[k] == 0, "every number", "of images", (unsigned)k);
+  expect(s.ties > 100 && s.none > 100, "ties, and none accepted,", "ties", s.ties);
+  expect(s.later > 100 && s.high > 100, "later ones, and sums above 2^32,", "later ones", s.later);
+}
+
+/* A right answer, spoiled on purpose: each bit of the block, the number, nothing written, a tally elsewhere. */
+static void check_spoiled_report(const uint8_t *reel, size_t length, size_t room, const report *told) {
+  report other = *told;
+  left l;
+  uint8_t *block = (uint8_t *)l.block;
+  size_t i;
+  ask_report(&l, reel, length, room, 4, told);
+  expect(wrong_in_report(&l, told) == NULL, "a right answer", "number", l.number);
+  for (i = 0; i < 8 * BLOCK; i++) {
+    block[i / 8] ^= (uint8_t)(1 << i % 8);
+    expect(wrong_in_report(&l, told) != NULL, "a spoiled bit", "at", (unsigned)i);
+    block[i / 8] ^= (uint8_t)(1 << i % 8);
+  }
+  for (i = 0; i < 24; i++) {
+    other.number = (uint32_t)i;
+    expect((wrong_in_report(&l, &other) == NULL) == (i == told->number), "another number", "is", (unsigned)i);
+  }
+  lay_out(block, 4, told, false);
+  expect(wrong_in_report(&l, told) != NULL, "nothing written", "number", l.number);
+  lay_out(block, 4, told, true);
+  expect(wrong_in_report(&l, told) == NULL, "all written", "number", l.number);
+  l.shift = 0;
+  expect((wrong_in_report(&l, told) == NULL) == (told->number != 0), "written elsewhere", "number", l.number);
+}
+
+static void check_spoiled_reports(void) {
+  static const report told = {0, {2, 0, 0, 1, 0, 0, 0, 0, 0, 0, 0, 1}, 2, 16, 12, 3};
+  built r = start_reel(4, 5);
+  add_image(&r, 0, 2 * CASE_B);
+  add_image(&r, 0, 2 * EDGE_TWICE);
+  add_image(&r, 0, NO_BYTES);
+  add_image(&r, 0, 2 * CASE_B + 1);
+  check_spoiled_report(r.bytes, r.length, 30, &told);
+  check_spoiled_report(r.bytes, r.length, 23, &refused_by_2);
+  check_spoiled_report(r.bytes, r.length - 1, 30, &refused_by_14);
+}
+
+static void check_reports(void) {
+  check_literal_reel();
+  check_kinds();
+  check_sequences();
+  check_mixed();
+  check_truncations();
+  check_told_pairs();
+  check_changed_pairs();
+  check_counts();
+  check_no_images();
+  check_long_gaps();
+  check_many_images();
+  check_longest_reel();
+  check_drawn_reels();
+  check_spoiled_reports();
+}
+
+/* Every number has a text of its own. */
 static void check_texts(void) {
   const char *none = mover_refusal_text(UINT32_MAX);
   uint32_t k, l;
   for (k = 0; k < 18; k++)
     for (l = 0; l < k; l++) expect(strcmp(mover_refusal_text(k), mover_refusal_text(l)) != 0, "a text", "number", k);
-  for (k = 0; k < 20; k++) expect(!strcmp(mover_refusal_text(k), none) == (k == 14 || k > 17), "no text", "number", k);
+  for (k = 0; k < 20; k++) expect(!strcmp(mover_refusal_text(k), none) == (k > 17), "no text", "number", k);
 }
 
 /* ---- the stack */
@@ -2209,6 +3068,7 @@ typedef struct large {
   uint8_t image[MOVER_IMAGE_SIZE(64, 512)], small[MOVER_IMAGE_SIZE(1, 0)], record[MOVER_RECORD_MAX];
   uint8_t with_tree[MOVER_IMAGE_WRITTEN_MAX], rewritten[MOVER_IMAGE_WRITTEN_MAX];
   size_t length, small_length, tree_length;
+  built images; /* all three of them, and some that are refused */
 } large;
 
 static large patch;
@@ -2216,6 +3076,21 @@ static large patch;
 static uint32_t call_write_image(void) {
   return mover_write_image(64, patch.a, 512, patch.b, 512, patch.lengths, 512, patch.mu, 64, patch.nu, 64, true, 0, patch.parents, 64,
                            patch.with_tree, sizeof patch.with_tree, &patch.tree_length);
+}
+
+static void add_copy(const uint8_t *image, size_t length) {
+  memcpy(leave_gap(&patch.images, 1), image, length);
+  add_pair(&patch.images, length);
+}
+
+static void fill_reel(void) {
+  patch.images = start_reel(6, 1);
+  add_copy(patch.image, patch.length);
+  add_copy(patch.image, patch.length - 1);
+  add_copy(patch.with_tree, patch.tree_length);
+  add_copy(patch.with_tree, patch.tree_length - 1);
+  add_copy(patch.small, patch.small_length);
+  add_copy(patch.small, 0);
 }
 
 /* A path through all vertices, with its parents, and further edges up to 512. */
@@ -2242,6 +3117,7 @@ static void fill_large(void) {
          "the image", "of one vertex", (unsigned)patch.small_length);
   expect(call_write_image() == 0 && patch.tree_length == MOVER_IMAGE_WRITTEN_MAX, "the image", "of the largest patch and a tree",
          (unsigned)patch.tree_length);
+  fill_reel();
 }
 
 static uint32_t call_distances(void) {
@@ -2325,6 +3201,15 @@ static uint32_t call_run_small(void) {
   return mover_run(patch.small, patch.small_length, patch.record, sizeof patch.record);
 }
 
+static uint32_t call_report(void) {
+  uint32_t places[24], accepted;
+  uint64_t sum, greatest;
+  size_t first;
+  uint32_t number = mover_report(patch.images.bytes, patch.images.length, places, 24, &accepted, &sum,
+                                 &greatest, &first);
+  return number == MOVER_OK && accepted != 3 ? 98 : number;
+}
+
 static const struct use {
   const char *name;
   uint32_t (*call)(void);
@@ -2346,6 +3231,7 @@ static const struct use {
     {"mover_tree_...", call_tree, MOVER_STACK_TREE},
     {"mover_run", call_run, MOVER_STACK_RUN},
     {"mover_run, one vertex", call_run_small, MOVER_STACK_RUN},
+    {"mover_report", call_report, MOVER_STACK_REPORT},
 };
 enum { USES = sizeof uses / sizeof uses[0] };
 
@@ -2428,8 +3314,8 @@ int main(void) {
       {"accepted and refused problems", check_problems}, {"figures and long tables", check_figures}, {"empty tables", check_empty},
       {"the reader", check_reader},                      {"the entry", check_run},                   {"the writer of images", check_writer},
       {"the rewriter", check_rewriter},                  {"trees", check_trees},                     {"climbs", check_climbs},
-      {"weights", check_weights},                        {"brushes", check_brushes},                 {"texts", check_texts},
-      {"stack", check_stack},
+      {"weights", check_weights},                        {"brushes", check_brushes},                 {"reports", check_reports},
+      {"texts", check_texts},                            {"stack", check_stack},
   };
   unsigned passed = 0, failed = 0;
   size_t k;

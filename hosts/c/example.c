@@ -1,5 +1,6 @@
 /* Every call on one patch: distances, the best answer, a given tree and whether it is best, the tree's methods, climbs up it, the same
- * by an image, which is written, rewritten, read and run, a painting as weights, a brush with and without a seam, and a refusal. */
+ * by an image, which is written, rewritten, read and run, a report on three images, a painting as weights, a brush with and without a
+ * seam, and a refusal. */
 #include "mover.h"
 
 #include <inttypes.h>
@@ -15,6 +16,7 @@ static const mover_edge edges[M] = {
 static uint32_t a[M], b[M], lengths[M]; /* the same edges as three lists */
 static const uint64_t before[N] = {610, 240, 150, 0, 0, 0};
 static const uint64_t after[N] = {0, 100, 100, 300, 300, 200};
+static const uint64_t unequal[N] = {0, 0, 0, 0, 0, 999};
 
 /* A tree that goes the long way round: each vertex's parent. Its root is 0. */
 static const uint32_t chain[N] = {0, 0, 1, 4, 5, 2};
@@ -174,6 +176,43 @@ static void by_image(void) {
   printf("\n  stays at 1: %" PRIu32 "\n", mover_amount(record, N, 1, 1));
 }
 
+/* A number in so many bytes of a reel, the least one first. */
+static void put(uint8_t *to, size_t value, size_t bytes) {
+  size_t i;
+  for (i = 0; i < bytes; i++) to[i] = (uint8_t)(value >> 8 * i);
+}
+
+/* Three images in a reel: with the chain, without a tree, and with unequal totals. Then the reel lacks its last byte. */
+static void sequence(void) {
+  enum { COUNT = 3 };
+  uint8_t reel[MOVER_REEL_DIRECTORY(COUNT) + COUNT * (MOVER_IMAGE_SIZE(N, M) + N + 1)];
+  uint32_t tally[MOVER_TALLY_PLACES], accepted, number, k;
+  uint64_t sum, greatest;
+  size_t at = MOVER_REEL_DIRECTORY(COUNT), length, first, i;
+  put(reel, COUNT, 2);
+  for (i = 0; i < COUNT; i++) {
+    number = mover_write_image(N, a, M, b, M, lengths, M, before, N, i < 2 ? after : unequal, N, i == 0, 0, chain, N,
+                               reel + at, sizeof reel - at, &length);
+    if (number != MOVER_OK) {
+      refused(number);
+      return;
+    }
+    put(reel + 2 + 8 * i, at, 4);
+    put(reel + 6 + 8 * i, length, 4);
+    at += length;
+  }
+  number = mover_report(reel, at, tally, MOVER_TALLY_PLACES, &accepted, &sum, &greatest, &first);
+  if (number != MOVER_OK) {
+    refused(number);
+    return;
+  }
+  printf("  %" PRIu32 " of %d accepted, cost %" PRIu64 " together, the greatest %" PRIu64 " by image %zu\n",
+         accepted, COUNT, sum, greatest, first);
+  for (k = 1; k < MOVER_TALLY_PLACES; k++)
+    if (tally[k] > 0) printf("  %" PRIu32 " refused by %" PRIu32 ": %s\n", tally[k], k, mover_refusal_text(k));
+  refused(mover_report(reel, at - 1, tally, MOVER_TALLY_PLACES, &accepted, &sum, &greatest, &first));
+}
+
 /* A painting as a paint tool holds it, in floats from 0 to 1: into grains, and back. */
 static void weights(void) {
   static const float painted[N] = {0.5f, 0.25f, 0.125f, 0.0625f, 0.0f, 0.0625f}, tenth = 0.1f;
@@ -225,7 +264,6 @@ static void brushes(void) {
 }
 
 int main(void) {
-  static const uint64_t unequal[N] = {0, 0, 0, 0, 0, 999};
   size_t e;
   for (e = 0; e < M; e++) {
     a[e] = edges[e].a;
@@ -241,6 +279,8 @@ int main(void) {
   climbs();
   printf("the same by an image\n");
   by_image();
+  printf("a sequence of images\n");
+  sequence();
   printf("a painting as weights\n");
   weights();
   printf("a brush on vertex 2\n");

@@ -9,6 +9,8 @@
  * and amounts weights by calls of their own.
  * An image holds a graph, two measures and, if there is one, a tree in bytes. Calls write, read and rewrite
  * images; what is equal is written as equal bytes, for hosts that compare files.
+ * One call reports on a sequence (reel) of images: how many are accepted, how many are refused by which
+ * number, and what the accepted ones cost.
  * Brushes ask which vertices lie within a reach of one, and which vertex with paint is nearest to it.
  *
  * Link one of two static archives, not both, for x86-64 Linux and its System V calling convention:
@@ -24,7 +26,7 @@
  * - No input is out of bounds: what fails one of a call's checks is refused by a number.
  * - A call returns MOVER_OK and fills its answer tables, or returns the number of the first check that
  *   fails, leaves every table as it was, and writes 0 through each pointer to a single result (cost,
- *   moves, optimal, mask, vertex, n, m, root, tree, length).
+ *   moves, optimal, mask, vertex, n, m, root, tree, length, accepted, sum, greatest, first).
  * - A table is a pointer and then a length, which counts elements. The pointer must be valid for that
  *   many; with length 0 it may be NULL. A byte buffer may stand at any address, a table of numbers must
  *   be aligned as its type asks. A pointer to a single result is not NULL.
@@ -43,13 +45,14 @@
 #include <stddef.h>
 #include <stdint.h>
 
-#define MOVER_VERSION 301 /* 0.3.1: major * 10000 + minor * 100 + patch */
+#define MOVER_VERSION 302 /* 0.3.2: major * 10000 + minor * 100 + patch */
 
 #define MOVER_MAX_VERTICES 64
 #define MOVER_MAX_EDGES 512
 #define MOVER_MAX_LENGTH 65535
 #define MOVER_MAX_TOTAL 16777216
-#define MOVER_NO_VERTEX 64 /* what stands for no vertex: mover_nearest_vertex, mover_tree_parent */
+#define MOVER_NO_VERTEX 64    /* what stands for no vertex: mover_nearest_vertex, mover_tree_parent */
+#define MOVER_TALLY_PLACES 24 /* of the tally of mover_report: a place for each number from 0 to 23 */
 
 /* Bytes of stack that each call uses at most, whatever it is given: what was measured, and room for the
  * dynamic linker, which may look up memcpy or memset at the first call. A thread has needs of its own
@@ -70,6 +73,7 @@
 #define MOVER_STACK_TO_WEIGHTS 8192
 #define MOVER_STACK_TREE 8192 /* each of mover_tree_new, _depth, _parent, _subtree */
 #define MOVER_STACK_RUN 40960
+#define MOVER_STACK_REPORT 40960
 
 #ifdef __cplusplus
 extern "C" {
@@ -77,33 +81,37 @@ extern "C" {
 
 /* The numbers that calls return. Checks run in the order 11, 12, 13 and then 1 to 10; each call says where
  * it stops. mover_write_image has 1, 2 and 13, in this order, the calls on weights 2, 15 and 16, and the
- * calls from a start vertex end with 17, after 5 or 6. The first check that fails gives the number. No call
- * returns 14. */
+ * calls from a start vertex end with 17, after 5 or 6. In mover_report 14 comes first, before 2. The first
+ * check that fails gives the number. */
 enum {
   MOVER_OK = 0,
-  MOVER_REFUSED_VERTEX_COUNT = 1,    /* n is 0 or above 64 */
-  MOVER_REFUSED_TABLE_SIZE = 2,      /* there are more than 512 edges, the edge lists are unequal in length,
-                                        a painting (mu, nu, amounts) or given parents are not n long, or
-                                        an answer table or the buffer for a record or an image is too short */
-  MOVER_REFUSED_EDGE_ORDER = 3,      /* an edge has b >= n or a >= b, or is not after its forerunner */
-  MOVER_REFUSED_EDGE_LENGTH = 4,     /* a length is above 65,535: no image gives this */
-  MOVER_REFUSED_NOT_CONNECTED = 5,   /* some vertex cannot be reached from vertex 0 */
-  MOVER_REFUSED_TOTAL_TOO_LARGE = 6, /* a total is above 16,777,216 */
-  MOVER_REFUSED_TOTALS_DIFFER = 7,   /* the totals of mu and nu differ */
-  MOVER_REFUSED_TREE_PARENTS = 8,    /* the root or a parent is >= n, the root's parent is another vertex,
-                                        or a second vertex is its own parent */
-  MOVER_REFUSED_TREE_EDGE = 9,       /* a vertex and its parent share no edge */
-  MOVER_REFUSED_TREE_CYCLE = 10,     /* a chain of parents misses the root */
-  MOVER_REFUSED_IMAGE_SIZE = 11,     /* the image has under 36 or over 65,536 bytes */
-  MOVER_REFUSED_SECTION_PLACE = 12,  /* a section starts before byte 36 or before its forerunner's end, or
-                                        ends past the image */
-  MOVER_REFUSED_SECTION_LENGTH = 13, /* byte 1 is not 0, or a section's length does not fit n and m; in
-                                        mover_write_image: an end, the root or a parent is above 255, a
-                                        length above 65,535 or an amount above 4,294,967,295 */
-  MOVER_REFUSED_WEIGHT_RANGE = 15,   /* a weight is below 0, above 1 or no number, or an amount that is to be a
-                                        weight is above 16,777,216 */
-  MOVER_REFUSED_WEIGHT_GRAINS = 16,  /* a weight is no whole number of grains */
-  MOVER_REFUSED_START_VERTEX = 17    /* the start is no vertex: it is not below n */
+  MOVER_REFUSED_VERTEX_COUNT = 1,        /* n is 0 or above 64 */
+  MOVER_REFUSED_TABLE_SIZE = 2,          /* there are more than 512 edges, the edge lists are unequal in
+                                            length, a painting (mu, nu, amounts) or given parents are not n
+                                            long, or an answer table, a tally too, or the buffer for a record
+                                            or an image is too short */
+  MOVER_REFUSED_EDGE_ORDER = 3,          /* an edge has b >= n or a >= b, or is not after its forerunner */
+  MOVER_REFUSED_EDGE_LENGTH = 4,         /* a length is above 65,535: no image gives this */
+  MOVER_REFUSED_NOT_CONNECTED = 5,       /* some vertex cannot be reached from vertex 0 */
+  MOVER_REFUSED_TOTAL_TOO_LARGE = 6,     /* a total is above 16,777,216 */
+  MOVER_REFUSED_TOTALS_DIFFER = 7,       /* the totals of mu and nu differ */
+  MOVER_REFUSED_TREE_PARENTS = 8,        /* the root or a parent is >= n, the root's parent is another vertex,
+                                            or a second vertex is its own parent */
+  MOVER_REFUSED_TREE_EDGE = 9,           /* a vertex and its parent share no edge */
+  MOVER_REFUSED_TREE_CYCLE = 10,         /* a chain of parents misses the root */
+  MOVER_REFUSED_IMAGE_SIZE = 11,         /* the image has under 36 or over 65,536 bytes */
+  MOVER_REFUSED_SECTION_PLACE = 12,      /* a section starts before byte 36 or before its forerunner's end, or
+                                            ends past the image */
+  MOVER_REFUSED_SECTION_LENGTH = 13,     /* byte 1 is not 0, or a section's length does not fit n and m; in
+                                            mover_write_image: an end, the root or a parent is above 255, a
+                                            length above 65,535 or an amount above 4,294,967,295 */
+  MOVER_REFUSED_SEQUENCE_DIRECTORY = 14, /* the reel ends before its count or its directory does, or a pair
+                                            starts inside the directory or before its forerunner's end, or
+                                            ends past the reel */
+  MOVER_REFUSED_WEIGHT_RANGE = 15,       /* a weight is below 0, above 1 or no number, or an amount that is to
+                                            be a weight is above 16,777,216 */
+  MOVER_REFUSED_WEIGHT_GRAINS = 16,      /* a weight is no whole number of grains */
+  MOVER_REFUSED_START_VERTEX = 17        /* the start is no vertex: it is not below n */
 };
 
 /* A number as a line of text. */
@@ -123,7 +131,7 @@ static inline const char *mover_refusal_text(uint32_t number) {
       "the image has under 36 or over 65536 bytes",
       "a section of the image is out of order or out of bounds",
       "byte 1 of the image is not 0, a section has the wrong length, or a number is too large for an image",
-      "no such number",
+      "the reel is shorter than its directory, or an image in it is out of order or out of bounds",
       "a weight is below 0, above 1 or no number, or an amount is above 16777216",
       "a weight is no whole number of grains",
       "the start is no vertex",
@@ -265,6 +273,23 @@ uint32_t mover_write_image(size_t n, const uint32_t *a, size_t a_len, const uint
 uint32_t mover_rewrite(const uint8_t *image, size_t image_len, uint8_t *buffer, size_t buffer_len,
                        size_t *length);
 
+/* Reports on a sequence (reel) of images, described below. An image's number is what mover_run returns for
+ * it with room enough for its record. The image is accepted if that is MOVER_OK; its cost is then the one in
+ * the record: that of its tree or, without a tree, the least.
+ *
+ *   tally      at least MOVER_TALLY_PLACES: place k becomes how many images have the number k, so place 0
+ *              how many are accepted
+ *   accepted   the same as place 0
+ *   sum        the sum of the accepted images' costs, exactly: it is below 2^62
+ *   greatest   the greatest of these costs
+ *   first      the first accepted image that has the greatest cost; images count from 0
+ *
+ * If no image is accepted, sum and greatest are 0 and `first` is the count of the images. Refused images are
+ * only counted. Refuses by 14 if the count or a pair is not as described below, then by 2 if the tally is too
+ * short; a refusal makes accepted, sum, greatest and first 0. */
+uint32_t mover_report(const uint8_t *reel, size_t reel_len, uint32_t *tally, size_t tally_len,
+                      uint32_t *accepted, uint64_t *sum, uint64_t *greatest, size_t *first);
+
 /* ---- Weights (libhost_calls.a)
  *
  * A weight is a float from 0 to 1, of 32 bits as IEEE 754 has them; a weight of 1 is 16,777,216 grains. Since a
@@ -332,6 +357,18 @@ uint32_t mover_run(const uint8_t *image, size_t image_len, uint8_t *record, size
 /* Bytes of an image with its sections back to back; with a tree, add n + 1. */
 #define MOVER_IMAGE_SIZE(n, m) (MOVER_IMAGE_HEADER + 4 * (size_t)(m) + 8 * (size_t)(n))
 #define MOVER_IMAGE_WRITTEN_MAX 2661 /* MOVER_IMAGE_SIZE(64, 512) + 65: enough for every written image */
+
+/* The sequence (reel) of images, for mover_report.
+ *
+ *   bytes 0-1    the count of the images
+ *   from byte 2  the directory: for each image a pair of 32-bit offset and length, pair i at byte 2 + 8 * i
+ *
+ * Offsets count from the reel's first byte. The images come in the order of their pairs: none starts before
+ * byte MOVER_REEL_DIRECTORY(count), where the directory ends, or before its forerunner's end, and none ends
+ * past the reel. Each pair is an image: one of length 0 is an image of no bytes, and must be in its place
+ * too. Gaps before, between and after the images are ignored. A reel may have any size.
+ */
+#define MOVER_REEL_DIRECTORY(count) (2 + 8 * (size_t)(count))
 
 /* The record, for n vertices:
  *

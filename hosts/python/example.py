@@ -78,6 +78,19 @@ def main() -> None:
         way = apart[2][near] / 100
         print(f"the weight nearest to vertex 2 is at {near}, {way:.2f} mm away")
 
+    # A sequence in one reel, and its sheet; the totals of the second image differ.
+    shots = [
+        weight_mover.write(edges, mu, nu),
+        weight_mover.write(edges, mu, [4000] + 8 * [0]),
+        weight_mover.write(edges, mu, nu, root, parents),
+    ]
+    sheet = weight_mover.report(weight_mover.pack(shots))
+    most = sheet.greatest / GRAINS / 100
+    print(f"of {len(shots)} images {sheet.accepted} are accepted")
+    print(f"  image {sheet.first} costs the most, {most:.2f}")
+    for number, images in sheet.refused.items():
+        print(f"  {images} refused by {number}: {weight_mover.refusal_text(number)}")
+
     # What is not sound is refused, with the reason.
     try:
         weight_mover.solve(edges, mu, [4000] + 8 * [0])

@@ -1,12 +1,13 @@
-"""What the tests hold the library to: definitions written out, images built byte for
-byte, and random patches."""
+"""What the tests hold the library to: definitions written out, images and reels built
+byte for byte, and random patches."""
 
 import random
 import struct
 from fractions import Fraction
+from functools import lru_cache
 from typing import Any, Dict, List, NamedTuple, Optional, Sequence, Set, Tuple
 
-from weight_mover import Answer, Edge, Entry
+from weight_mover import Answer, Edge, Entry, Report
 
 
 class Problem(NamedTuple):
@@ -208,6 +209,39 @@ def as_weights(amounts: List[int]) -> Tuple[int, List[Fraction]]:
     return 0, [Fraction(amount, 2**24) for amount in amounts]
 
 
+def least_cost(problem: Problem) -> int:
+    """What the cheapest plan costs. Grains go from a vertex that has too many to the
+    nearest that has too few, until there is none. Where an edge carries grains the
+    other way, some of these can be taken back, which saves its length."""
+    lengths, residue, cost = problem.pairs(), problem.difference, 0
+    carried = {pair: 0 for pair in lengths}
+    while any(residue):
+        start = next(x for x in range(problem.n) if residue[x] > 0)
+        steps = [
+            (x, y, -length if carried[y, x] > 0 else length)
+            for (x, y), length in lengths.items()
+        ]
+        least, ways, fell = {start: 0}, {start: [start]}, True
+        while fell:
+            fell = False
+            for x, y, step in steps:
+                if x in least and (y not in least or least[x] + step < least[y]):
+                    least[y], ways[y], fell = least[x] + step, ways[x] + [y], True
+        short = [x for x in range(problem.n) if residue[x] < 0]
+        end = min(short, key=lambda x: least[x])
+        way = list(zip(ways[end], ways[end][1:]))
+        back = [carried[y, x] for x, y in way if carried[y, x] > 0]
+        amount = min(residue[start], -residue[end], *back)
+        for x, y in way:
+            taken = min(amount, carried[y, x])
+            carried[y, x] -= taken
+            carried[x, y] += amount - taken
+        residue[start] -= amount
+        residue[end] += amount
+        cost += amount * least[end]
+    return cost
+
+
 def faults(problem: Problem, best: Answer, apart: List[List[int]]) -> List[str]:
     """What does not hold of a best answer, of all that is asked of one."""
     n, u, table = problem.n, best.potential, best.table
@@ -318,6 +352,120 @@ def rewritten(image: bytes) -> Tuple[int, Any]:
     return number, with_gaps(image, 5 * [b""]) if number == 0 else []
 
 
+def contents_of(image: bytes) -> Contents:
+    """What an image holds whose form is right."""
+    edges, mu, nu, tree = (image[at : at + length] for at, length in directory(image))
+    amounts = [list(struct.unpack(f"<{image[0]}I", part)) for part in (mu, nu)]
+    given = Contents(list(struct.iter_unpack("<BBH", edges)), *amounts)
+    return given._replace(root=tree[0], parents=list(tree[1:])) if tree else given
+
+
+def tree_refusal(problem: Problem, root: int, parents: List[int]) -> int:
+    """The number that refuses a tree, 0 if none does."""
+    n, pairs = problem.n, problem.pairs()
+    own = [x for x in range(n) if parents[x] == x]
+    if root >= n or max(parents) >= n or own != [root]:
+        return 8
+    if any((x, parents[x]) not in pairs for x in range(n) if x != root):
+        return 9
+    return 0 if is_tree(problem, root, parents) else 10
+
+
+@lru_cache(maxsize=None)
+def answer_to(image: bytes) -> Tuple[int, int]:
+    """The number that refuses an image, 0 if none does, and its cost: that of its tree
+    or, without one, that of the cheapest plan."""
+    number = form_refusal(image)
+    if number != 0:
+        return number, 0
+    edges, mu, nu, root, parents = contents_of(image)
+    numbers = [k for part in (mu, nu) for k in failing(len(mu), edges, 0, part)]
+    if numbers:
+        return min(numbers), 0
+    if sum(mu) != sum(nu):
+        return 7, 0
+    problem = Problem(edges, mu, nu)
+    if parents is None:
+        return 0, least_cost(problem)
+    number = tree_refusal(problem, root, parents)
+    return number, weigh(problem, parents).cost if number == 0 else 0
+
+
+# ---- Reels
+
+
+def reel_of(images: Sequence[bytes], gaps: Sequence[bytes] = ()) -> bytes:
+    """A reel with a gap before each image and after the last, or with none."""
+    gaps = gaps or (len(images) + 1) * [b""]
+    head, body = [len(images).to_bytes(2, "little")], []
+    at = 2 + 8 * len(images)
+    for gap, image in zip(gaps, images):
+        at += len(gap)
+        head += [at.to_bytes(4, "little"), len(image).to_bytes(4, "little")]
+        at += len(image)
+        body += [gap, image]
+    return b"".join([*head, *body, gaps[-1]])
+
+
+def directory_end(reel: bytes) -> int:
+    """Where the directory of a reel with a count should end."""
+    return 2 + 8 * (reel[0] + 256 * reel[1])
+
+
+def pairs_in(reel: bytes) -> List[Tuple[int, int]]:
+    """Offset and length of each image of a reel that has its directory."""
+    numbers = struct.unpack_from(f"<{directory_end(reel) // 4}I", reel, 2)
+    return list(zip(numbers[::2], numbers[1::2]))
+
+
+def with_pairs(reel: bytes, pairs: Sequence[Tuple[int, int]]) -> bytes:
+    """The same reel with other offsets and lengths."""
+    head = [struct.pack("<II", at, length) for at, length in pairs]
+    return b"".join([reel[:2], *head, reel[2 + 8 * len(head) :]])
+
+
+def in_place(reel: bytes) -> bool:
+    """Whether a reel has its count and directory, and each image is behind these and
+    behind its forerunner and ends in the reel."""
+    if len(reel) < 2 or len(reel) < directory_end(reel):
+        return False
+    end = directory_end(reel)
+    for at, length in pairs_in(reel):
+        if at < end or at + length > len(reel):
+            return False
+        end = at + length
+    return True
+
+
+def images_of(reel: bytes) -> List[bytes]:
+    """The images of a reel."""
+    return [reel[at : at + length] for at, length in pairs_in(reel)]
+
+
+def sheet_of(answers: Sequence[Tuple[int, int]]) -> Report:
+    """The sheet of images by the number and the cost of each."""
+    numbers = [number for number, _ in answers]
+    costs = {x: cost for x, (number, cost) in enumerate(answers) if number == 0}
+    greatest = max(costs.values(), default=0)
+    return Report(
+        accepted=len(costs),
+        tally=[numbers.count(k) for k in range(24)],
+        sum=sum(costs.values()),
+        greatest=greatest,
+        first=min((x for x in costs if costs[x] == greatest), default=len(answers)),
+    )
+
+
+def report(reel: bytes, places: int = 24) -> Tuple[int, Any]:
+    """The number that refuses a reel or a tally of so many places, 0 if none does, and
+    the sheet."""
+    if not in_place(reel):
+        return 14, []
+    if places < 24:
+        return 2, []
+    return 0, sheet_of([answer_to(image) for image in images_of(reel)])
+
+
 # ---- Random patches
 
 
@@ -359,9 +507,11 @@ def random_painting(draw: random.Random, n: int, total: int) -> List[int]:
     return painting
 
 
-def random_problem(draw: random.Random) -> Problem:
+def random_problem(
+    draw: random.Random, most: Sequence[int] = (4, 8, 16, 64)
+) -> Problem:
     """From 1 to 64 vertices, most often few."""
-    n = draw.randint(1, draw.choice([4, 8, 16, 64]))
+    n = draw.randint(1, draw.choice(most))
     total = draw.choice([0, n, draw.randint(1, 1000), 16_777_216])
     mu = random_painting(draw, n, total)
     nu = mu if draw.random() < 0.1 else random_painting(draw, n, total)
@@ -625,3 +775,180 @@ def random_image(draw: random.Random) -> bytes:
     m = draw.choice([few, few, few, few, 512, 513, draw.randint(513, 1000)])
     image = spread(draw, image_of(*random_contents(draw, n, m)))
     return draw.choice([image, damaged(draw, image)])
+
+
+# ---- Random reels
+
+NUMBERS = (0, 1, 2, 3, 5, 6, 7, 8, 9, 10, 11, 12, 13)  # what an image can have
+
+
+def faulty_tree(
+    draw: random.Random, number: int, problem: Problem, root: int, parents: List[int]
+) -> Tuple[int, List[int]]:
+    """The tree with a wrong root or parent, a parent that is not next to its vertex, or
+    two vertices that are each other's parents."""
+    n, near, x = problem.n, problem.pairs(), draw.randrange(problem.n)
+    places = [(x, y) for x in range(n) for y in range(n)]
+    changes = {
+        8: [(x, n), (x, 255), (x, x), (root, (root + 1) % n)],
+        9: [(x, y) for x, y in places if x not in (y, root) and (x, y) not in near],
+        10: [(x, y) for y, x in enumerate(parents) if x not in (y, root)],
+    }
+    if number == 8 and draw.random() < 0.3:
+        return draw.choice([n, 255]), parents
+    wrong = parents[:]
+    if changes[number]:
+        x, parent = draw.choice(changes[number])
+        wrong[x] = parent
+    return root, wrong
+
+
+def faulty_contents(draw: random.Random, number: int, given: Contents) -> Contents:
+    """The contents with a fault of one of the checks from 1 to 10."""
+    edges, mu, nu, root, parents = given
+    n, x = len(mu), draw.randrange(len(mu))
+    if number == 1:
+        zeros = draw.choice([0, 65, draw.randint(65, 255)]) * [0]
+        return Contents(edges, zeros, zeros, root, None if parents is None else zeros)
+    if number == 2:
+        return given._replace(edges=edges + draw.choice([513, 600]) * [(0, 1, 1)])
+    if number in (3, 5):
+        wrong = faulty_edges(draw, number, n, edges)
+        return given._replace(edges=[(a, min(b, 255), c) for a, b, c in wrong])
+    if number in (6, 7):
+        part = draw.choice(["mu", "nu"])
+        painting = getattr(given, part)[:]
+        less = -1 if painting[x] > 0 else 1
+        painting[x] += less if number == 7 else 2**24 + 1 - sum(painting)
+        return given._replace(**{part: painting})
+    problem = Problem(edges, mu, nu)
+    tree = random_tree(draw, problem) if parents is None else (root, parents)
+    return Contents(edges, mu, nu, *faulty_tree(draw, number, problem, *tree))
+
+
+def faulty_form(draw: random.Random, number: int, image: bytes) -> bytes:
+    """The image with a fault of one of the checks from 11 to 13."""
+    most, wrong = 65_536, bytearray(image)
+    if number == 11:
+        size = draw.choice([0, 35, draw.randrange(36), most + 1, most + len(image)])
+        return image[:size].ljust(size, b"x")
+    if number == 12:
+        struct.pack_into("<I", wrong, draw.choice([4, 12, 20]), 35)
+        return draw.choice([image[:-1], bytes(wrong)])
+    wrong[draw.choice([1, 1, 8, 32])] ^= 1  # the byte after n, or a length
+    return bytes(wrong)
+
+
+def random_shot(
+    draw: random.Random, number: int, most: Sequence[int], costless: bool = False
+) -> bytes:
+    """An image with a tree or without that is accepted, or else most often is refused
+    by the number; at times it has another fault besides."""
+    problem = random_problem(draw, most)
+    if draw.random() < 0.2:  # for costs beyond 32 bits
+        edges = [(a, b, draw.randint(256, 65_535)) for a, b, _ in problem.edges]
+        paintings = [random_painting(draw, problem.n, 2**24) for _ in range(2)]
+        problem = Problem(edges, *paintings)
+    if costless:
+        problem = problem._replace(nu=problem.mu[:])
+    tree: Any = random_tree(draw, problem) if draw.random() < 0.5 else ()
+    given = Contents(in_order(problem.edges), problem.mu, problem.nu, *tree)
+    if number == 0:
+        image = image_of(*given)
+        return spread(draw, image) if draw.random() < 0.2 else image
+    other = draw.choice([number, number, number, draw.choice(NUMBERS[1:])])
+    numbers = sorted({number, other}, reverse=True)
+    for fault in numbers:
+        if fault <= 10:
+            given = faulty_contents(draw, fault, given)
+    image = image_of(*given)
+    for fault in numbers:
+        if fault > 10:
+            image = faulty_form(draw, fault, image)
+    return image
+
+
+def random_gaps(draw: random.Random, count: int) -> List[bytes]:
+    """None, or some of a few bytes and at times one of many."""
+    if draw.random() < 0.3:
+        return count * [b""]
+    sizes = [draw.choice([0, 0, 1, 3, draw.randint(0, 40)]) for _ in range(count)]
+    sizes[draw.randrange(count)] += draw.choice([0, 0, 0, 65_536])
+    return [random_bytes(draw, size) for size in sizes]
+
+
+def random_reel(draw: random.Random) -> bytes:
+    """Images of all kinds; at times just refused ones, or none that costs anything, or
+    some hundred empty ones among them; at times each comes twice. Some end early: then
+    their last byte is in the gap behind them."""
+    kind = draw.choice(["any", "any", "any", "refused", "costless", "long"])
+    images: List[bytes] = []
+    for _ in range(draw.choice([0, 1, 2, 3, 5, 8, 13, 20])):
+        fault = kind == "refused" or draw.random() < 0.5
+        number = draw.choice([*NUMBERS[1:], 9, 9, 10, 13]) if fault else 0
+        images.append(random_shot(draw, number, (3, 6, 6, 12, 24), kind == "costless"))
+    images += draw.sample(images, draw.choice([0, 0, len(images)]))
+    if kind == "long":
+        place = draw.choice([0, draw.randint(0, len(images))])
+        images[place:place] = draw.randint(250, 520) * [b""]
+    gaps = random_gaps(draw, len(images) + 1)
+    for place, image in enumerate(images):
+        if image and draw.random() < 0.1:
+            images[place], gaps[place + 1] = image[:-1], image[-1:] + gaps[place + 1]
+    return reel_of(images, gaps)
+
+
+def small_reel(draw: random.Random) -> bytes:
+    """Few images, most of them of a few bytes or none."""
+    images = []
+    for _ in range(draw.choice([0, 1, 2, 2, 3, 3, 4, 6])):
+        image = random_shot(draw, 0, (1, 2, 3))[:100]
+        some = random_bytes(draw, draw.randint(1, 40))
+        images.append(draw.choice([b"", b"", some, image]))
+    return reel_of(images, random_gaps(draw, len(images) + 1))
+
+
+def damaged_pair(
+    draw: random.Random, pairs: List[Tuple[int, int]], x: int, size: int
+) -> Tuple[int, int]:
+    """Another offset and length for image x of a reel: on either side of a bound, in
+    the directory, past all, with a sum that 32 bits do not hold, or another image's."""
+    at, length = pairs[x]
+    begin, most = 2 + 8 * len(pairs), 2**32
+    before = sum(pairs[x - 1]) if x > 0 else begin
+    after = pairs[x + 1][0] if x + 1 < len(pairs) else size
+    start = draw.choice([before, before, after]) + draw.choice([-1, 0, 0, 1])
+    end = draw.choice([after, after, size]) + draw.choice([-1, 0, 0, 1])
+    inside = draw.choice([0, 1, 2, begin - 8, begin - 1, begin])
+    past = draw.choice([size, size + 1, most // 2, most - 1])
+    changed_pairs = [
+        (start, length),
+        (start, after - start),
+        (start, 0),
+        (at, end - at),
+        (inside, draw.choice([0, length, begin - inside, after - inside])),
+        (past, draw.choice([0, 1, most - past, most - past + before])),
+        (at, draw.choice([0, before, after, size]) - at),
+        draw.choice(pairs),
+    ]
+    offset, length = draw.choice(changed_pairs)
+    return offset % most, length % most
+
+
+def damaged_reel(draw: random.Random, reel: bytes) -> bytes:
+    """The reel with up to two pairs changed; at times with all of them in another
+    order, with another count, cut off, or with next to nothing left."""
+    pairs, size, kind = pairs_in(reel), len(reel), draw.randrange(10)
+    for _ in range(draw.choice([0, 1, 1, 1, 2]) if pairs else 0):
+        x = draw.randrange(len(pairs))
+        pairs[x] = damaged_pair(draw, pairs, x, size)
+    if kind == 0:
+        pairs = draw.sample(pairs_in(reel), len(pairs))
+    wrong = with_pairs(reel, pairs)
+    if kind == 1:
+        count = (len(pairs) + draw.choice([-1, 1, 256])) % 2**16
+        return count.to_bytes(2, "little") + wrong[2:]
+    if kind == 2:
+        ends = [2 + 8 * len(pairs), draw.randint(0, size), *map(sum, pairs)]
+        return wrong[: draw.choice(ends) - draw.choice([0, 0, 1])]
+    return bytes(draw.randrange(4)) if kind == 3 else wrong

@@ -1,13 +1,13 @@
 """Tests of the Python module: marked cases, refusals, inputs, random patches, queries,
-images, weights.
+images, reels, weights.
 
     python3 test_weight_mover.py
 
 Answers on random patches are held to the definitions, which reference.py writes out,
 and, where networkx is installed, to its network simplex and shortest paths; images to
-those that reference.py builds, and weights to exact fractions. MOVER_CASES sets the
-number of patches, at least 200, and MOVER_SEED repeats a run. The last line is
-"N passed, M failed".
+those that reference.py builds, reels to its own answers for their images, and weights
+to exact fractions. MOVER_CASES sets the number of patches, at least 200, and MOVER_SEED
+repeats a run. The last line is "N passed, M failed".
 """
 
 import array
@@ -17,56 +17,84 @@ import dataclasses
 import doctest
 import importlib
 import io
+import itertools
 import math
 import os
 import pickle
+import pydoc
 import random
 import re
 import struct
 import sys
 import time
+import tracemalloc
 import unittest
 from concurrent.futures import ThreadPoolExecutor
 from fractions import Fraction
-from typing import Any, Callable, Dict, Iterator, List, NamedTuple, Tuple, Type
+from typing import (
+    Any,
+    Callable,
+    Dict,
+    Iterator,
+    List,
+    NamedTuple,
+    Optional,
+    Tuple,
+    Type,
+)
 from unittest import mock
 
 import example
 import weight_mover as wm
 from reference import (
+    NUMBERS,
     Contents,
     Problem,
+    answer_to,
     as_weights,
     changed,
+    contents_of,
+    damaged_reel,
     directory,
+    directory_end,
     entries,
     failing,
     faults,
     faulty,
     fitting_contents,
     image_of,
+    images_of,
     in_grains,
     in_order,
+    in_place,
+    least_cost,
     lengths_from,
     marked,
     moves,
     nearest,
+    pairs_in,
     random_amounts,
     random_double,
     random_image,
     random_problem,
     random_query,
+    random_reel,
     random_single,
     random_tree,
     random_weights,
+    reel_of,
+    report,
     rerooted,
     rewritten,
+    sheet_of,
     single,
+    small_reel,
     spread,
     swapped,
     tree_figures,
     weigh,
     with_gaps,
+    with_pairs,
     within,
 )
 
@@ -161,6 +189,44 @@ def as_word(answer: Any) -> int:
     if isinstance(answer, list):
         return sum(1 << x for x in answer)
     return 64 if answer is None else int(answer)
+
+
+# What a report leaves: its number, the tally, and accepted, sum, greatest and first.
+Left = Tuple[int, List[int], List[int]]
+
+
+def lent_tally(places: int) -> List[int]:
+    """The tally that the call is lent."""
+    return list(range(9, 9 + places))
+
+
+def left(number: int, sheet: Any, tally: List[int]) -> Left:
+    """What a report leaves that was lent a tally."""
+    if number != 0:
+        return number, tally, [0, 0, 0, 0]
+    results = [sheet.accepted, sheet.sum, sheet.greatest, sheet.first]
+    return 0, sheet.tally + tally[24:], results
+
+
+def ask_report(reel: bytes, places: int) -> Left:
+    """What the call leaves; its results were 8. The reel, which is at an odd address,
+    and what is next to it, to the tally and to the results stay as they were."""
+    memory = bytearray(b"<" + reel + b">")
+    given = (ctypes.c_uint8 * len(reel)).from_buffer(memory, 1)
+    table = (ctypes.c_uint32 * (places + 2))(7, *lent_tally(places), 7)
+    tally: Any = (ctypes.c_uint32 * places).from_buffer(table, 4)
+    kinds: List[Any] = [ctypes.c_uint32, ctypes.c_uint64, ctypes.c_uint64]
+    lent = [(kind * 3)(7, 8, 9) for kind in kinds + [ctypes.c_size_t]]
+    results = [
+        ctypes.byref(part._type_.from_buffer(part, ctypes.sizeof(part._type_)))
+        for part in lent
+    ]
+    number = wm._call("mover_report", given, tally, *results)
+    assert memory == b"<" + reel + b">", "the reel changed"
+    assert (table[0], table[places + 1]) == (7, 7), "a place next to the tally changed"
+    for part in lent:
+        assert (part[0], part[2]) == (7, 9), "a place next to a result changed"
+    return number, list(tally), [part[1] for part in lent]
 
 
 # ---- The marked cases
@@ -320,6 +386,118 @@ LARGEST = Contents(
     255,
     list(range(64, 128)),
 )
+
+# The marked cases as images, with their trees and without.
+TREES = {
+    name: image_of(*case.problem, case.root, case.parents)
+    for name, case in MARKED.items()
+}
+BESTS = {name: image_of(*case.problem) for name, case in MARKED.items()}
+
+# Images that are refused, by the number: without a tree and with one, if both can be.
+TWO = [(0, 1, 1)], [1, 0], [0, 1]
+THREE = [(0, 1, 1), (1, 2, 1)], [1, 0, 0], [0, 0, 1]
+MANY = 513 * [(0, 1, 1)], [1, 0], [0, 1]
+REFUSED: Dict[int, List[bytes]] = {
+    1: [image_of([], [], []), image_of([], 65 * [0], 65 * [0], 0, 65 * [0])],
+    2: [image_of(*MANY), image_of(*MANY, 0, [0, 0])],
+    3: [image_of([(1, 0, 1)], [1, 0], [0, 1]), image_of([(0, 1, 1)], [1], [1], 0, [0])],
+    5: [image_of([], [1, 0], [0, 1]), image_of([], [1, 0], [0, 1], 0, [0, 0])],
+    6: [image_of([], [FULL + 1], [FULL + 1]), image_of([], [1], [FULL + 1], 0, [0])],
+    7: [image_of([], [3], [4]), image_of([], [FULL], [0], 0, [0])],
+    8: [image_of(*TWO, 0, [1, 0]), image_of(*TWO, 2, [0, 0])],
+    9: [image_of(*THREE, 0, [0, 0, 0])],
+    10: [image_of(*THREE, 0, [0, 2, 1])],
+    11: [b"", bytes(35), IMAGE_A + bytes(65_537 - len(IMAGE_A))],
+    12: [BESTS["A"][:-1], IMAGE_A[:-1]],
+    13: [image_of([], [0], []), IMAGE_A[:1] + b"\x01" + IMAGE_A[2:]],
+}
+
+
+def far(length: int, tree: bool = False) -> bytes:
+    """An image that costs 16,777,216 times a length."""
+    given = [(0, 1, length)], [FULL, 0], [0, FULL]
+    return image_of(*given, 1, [1, 1]) if tree else image_of(*given)
+
+
+# The largest cost there is: all grains from one end of the line of 64 to the other.
+ENDS = ZIGZAG, [FULL] + 63 * [0], 32 * [0] + [FULL] + 31 * [0]
+UP_THE_LINE = [0, *(TO_AND_FRO[TO_AND_FRO.index(x) - 1] for x in range(1, 64))]
+END_TO_END = [image_of(*ENDS), image_of(*ENDS, 0, UP_THE_LINE)]
+
+# Images, how many of them have which number, and the sum, the greatest and the first.
+SHEETS: List[Tuple[List[bytes], Dict[int, int], int, int, int]] = [
+    ([], {}, 0, 0, 0),
+    ([TREES["A"]], {0: 1}, 22, 22, 0),
+    ([BESTS["seam"]], {0: 1}, 10, 10, 0),
+    # a tree's cost, or the best
+    ([TREES["B"], BESTS["B"]], {0: 2}, 16, 12, 0),
+    ([BESTS["B"], TREES["B"]], {0: 2}, 16, 12, 1),
+    ([BESTS["D"], TREES["B"], TREES["D"], BESTS["B"]], {0: 4}, 37, 15, 2),
+    (list(TREES.values()), {0: 10}, 91 + 65_535 * FULL, 65_535 * FULL, 5),
+    (list(BESTS.values()), {0: 10}, 74 + 65_535 * FULL, 65_535 * FULL, 5),
+    # two or more that cost as much
+    ([TREES["G"], BESTS["H"], TREES["D"]], {0: 3}, 45, 15, 0),
+    ([BESTS["B"], TREES["G"], TREES["A"], TREES["D"], BESTS["A"]], {0: 5}, 78, 22, 2),
+    ([TREES["A"], BESTS["B"], TREES["A"]], {0: 3}, 48, 22, 0),
+    # refused ones before, between and behind
+    ([b"", TREES["B"]], {0: 1, 11: 1}, 12, 12, 1),
+    ([TREES["B"], b""], {0: 1, 11: 1}, 12, 12, 0),
+    ([b"", REFUSED[7][0], TREES["B"], b"x"], {0: 1, 7: 1, 11: 2}, 12, 12, 2),
+    ([b"", TREES["B"], REFUSED[9][0], TREES["B"]], {0: 2, 9: 1, 11: 1}, 24, 12, 1),
+    ([BESTS["B"], REFUSED[2][0], TREES["A"]], {0: 2, 2: 1}, 26, 22, 2),
+    ([TREES["A"], REFUSED[12][1], BESTS["B"]], {0: 2, 12: 1}, 26, 22, 0),
+    # none that costs anything
+    ([BESTS["E"], TREES["C"]], {0: 2}, 0, 0, 0),
+    ([REFUSED[7][0], TREES["C"], BESTS["E"]], {0: 2, 7: 1}, 0, 0, 1),
+    ([b"", b"", BESTS["E"]], {0: 1, 11: 2}, 0, 0, 2),
+    ([BESTS["E"], TREES["own potential"], BESTS["C"]], {0: 3}, 2, 2, 1),
+    # none that is accepted
+    ([b""], {11: 1}, 0, 0, 1),
+    ([REFUSED[13][0], REFUSED[8][0], REFUSED[1][0]], {1: 1, 8: 1, 13: 1}, 0, 0, 3),
+    # beyond 32 bits
+    (2 * [far(128)], {0: 2}, 2**32, 2**31, 0),
+    ([far(128), TREES["A"], far(128, True)], {0: 3}, 2**32 + 22, 2**31, 0),
+    ([TREES["A"], far(256), BESTS["B"]], {0: 3}, 2**32 + 26, 2**32, 1),
+    ([far(257), far(255)], {0: 2}, 2**33, 2**32 + 2**24, 0),
+    ([far(256), far(512, True), far(768)], {0: 3}, 3 * 2**33, 3 * 2**32, 2),
+    ([far(FAR), *END_TO_END, far(FAR)], {0: 4}, 128 * FAR * FULL, 63 * FAR * FULL, 1),
+    # as large as an image may be, and larger
+    (
+        [IMAGE_A.ljust(size, b"x") for size in (65_535, 65_536, 65_537, 131_072)],
+        {0: 2, 11: 2}, 44, 22, 0,
+    ),
+    # every number
+    *(
+        ([image, TREES["B"]], {0: 1, number: 1}, 12, 12, 1)
+        for number, images in REFUSED.items() for image in images
+    ),
+    (
+        sum(REFUSED.values(), []) + [BESTS["B"], TREES["B"], BESTS["B"]],
+        {0: 3, **{number: len(images) for number, images in REFUSED.items()}},
+        20, 12, sum(map(len, REFUSED.values())) + 1,
+    ),
+]  # fmt: skip
+LONG_SHEETS: List[Tuple[List[bytes], Dict[int, int], int, int, int]] = [
+    (255 * [b""] + [TREES["B"]], {0: 1, 11: 255}, 12, 12, 255),
+    (256 * [b""] + [TREES["B"]], {0: 1, 11: 256}, 12, 12, 256),
+    (300 * [BESTS["B"]] + [TREES["B"]], {0: 301}, 1212, 12, 300),
+    (65_535 * [b""], {11: 65_535}, 0, 0, 65_535),
+    (65_534 * [b""] + [BESTS["E"]], {0: 1, 11: 65_534}, 0, 0, 65_534),
+    (65_535 * [TREES["F"]], {0: 65_535}, 65_535**2 * FULL, 65_535 * FULL, 0),
+]
+
+
+def reels_of(images: List[bytes]) -> List[bytes]:
+    """The images back to back, with gaps, with a tail, and behind a large gap."""
+    count = len(images)
+    forms = [
+        (count + 1) * [b""],
+        (count + 1) * [b"gap"],
+        count * [b""] + [b"a tail"],
+        [bytes(65_536)] + count * [b""],
+    ]
+    return [reel_of(images, gaps) for gaps in forms]
 
 
 class MarkedCases(unittest.TestCase):
@@ -497,6 +675,59 @@ class MarkedCases(unittest.TestCase):
         self.assertEqual(math.copysign(1, wm.to_weights([0])[0]), 1)
         self.assertEqual(wm.to_weights([True, 3]), [GRAIN, 3 * GRAIN])
         self.assertEqual(wm.to_weights([]), [])
+
+    def test_report(self) -> None:
+        for images, numbers, *costs in SHEETS + LONG_SHEETS:
+            name = f"{len(images)} images, {numbers}, {costs}"
+            tally = [numbers.get(k, 0) for k in range(24)]
+            wanted = wm.Report(tally[0], tally, *costs)
+            for reel in reels_of(images) if len(images) < 256 else [reel_of(images)]:
+                got = wm.report(reel)
+                self.assertEqual(got, wanted, name)
+                refused = {k: numbers[k] for k in numbers if k > 0}
+                self.assertEqual(got.refused, refused, name)
+                kinds = {*map(type, got.tally), *map(type, vars(got).values())}
+                self.assertEqual(kinds, {int, list}, name)
+                for places in (24, 30):
+                    lent = lent_tally(places)
+                    found = ask_report(reel, places)
+                    self.assertEqual(found, left(0, wanted, lent), name)
+
+    def test_report_of_each(self) -> None:
+        """The sheet of one image has the cost that the case has."""
+        for name, case in MARKED.items():
+            images = ((TREES[name], case.cost), (BESTS[name], case.best))
+            for image, cost in images:
+                sheet = wm.report(wm.pack([image]))
+                self.assertEqual((sheet.accepted, sheet.sum), (1, cost), name)
+                self.assertEqual(answer_to(image), (0, cost), name)
+
+    def test_images_with_a_gap_behind(self) -> None:
+        """An image ends where its length says, whatever the next byte is."""
+        gaps = [b"", IMAGE_A[-1:], b""]
+        sheet = wm.report(reel_of([IMAGE_A[:-1], TREES["B"]], gaps))
+        self.assertEqual((sheet.refused, sheet.sum), ({12: 1}, 12))
+        gaps = [IMAGE_A[:1], b"", b""]
+        sheet = wm.report(reel_of([IMAGE_A[1:], TREES["B"]], gaps))
+        self.assertEqual((sheet.accepted, sheet.first), (1, 1))
+        gaps = [b"", IMAGE_A, IMAGE_A]
+        sheet = wm.report(reel_of([b"", b""], gaps))
+        self.assertEqual((sheet.refused, sheet.first), ({11: 2}, 2))
+
+    def test_pack(self) -> None:
+        small = wm.pack([b"", b"an", b"image"])
+        by_hand = (
+            "0300"  # the count
+            "1a000000 00000000  1a000000 02000000  1c000000 05000000"  # the directory
+            "616e 696d616765"
+        )
+        self.assertEqual(small, bytes.fromhex(by_hand))
+        self.assertEqual(wm.pack([]), b"\x00\x00")
+        for images, *_ in SHEETS + LONG_SHEETS:
+            reel = wm.pack(images)
+            self.assertIs(type(reel), bytes)
+            self.assertEqual(reel, reel_of(images))
+            self.assertEqual(images_of(reel), images)
 
 
 # ---- Refusals
@@ -1034,6 +1265,101 @@ class Refusals(unittest.TestCase):
             lent = (ctypes.c_float * places)()
             self.turned(number, "mover_to_weights", given, lent, new)
 
+    def reported(self, number: int, reel: bytes, places: int = 30) -> None:
+        """A reel and a tally of so many places that are refused by the number, or not
+        if it is 0: by the call, and by the module where it lends so many places."""
+        name = f"{reel[:100].hex()}, {len(reel)} bytes, {places} places"
+        right, sheet = report(reel, places)
+        self.assertEqual(right, number, name)
+        wanted = left(number, sheet, lent_tally(places))
+        self.assertEqual(ask_report(reel, places), wanted, name)
+        if places >= 24:
+            self.assertEqual(outcome(wm.report, reel), (number, sheet), name)
+
+    def test_14_reels(self) -> None:
+        """Reels that end early, counts that are too large, and images that are out of
+        order or in each other."""
+        for reel in (b"", b"\x00", b"\x01", b"\xff", b"\x01\x00", b"\x00\x01"):
+            self.reported(14, reel)
+        for reel in (b"\x00\x00", b"\x00\x00tail", bytes(70_000)):
+            self.reported(0, reel)
+        images = [TREES["B"], b"", BESTS["D"]]
+        reel = reel_of(images, [b"", b"gap", b"", b""])
+        for size in range(len(reel)):
+            self.reported(14, reel[:size])
+        for tail in (b"", b"x", b"tail", bytes(70_000)):
+            self.reported(0, reel + tail)
+        for size in range(2, 10):
+            self.reported(14, reel_of([b""])[:size])
+        none = reel_of(65_535 * [b""])
+        self.reported(0, none)
+        self.reported(14, none[:-1])
+        self.reported(14, b"\xff\xff" + bytes(8 * 65_535))
+        for count in (4, 5, 255, 256 + 3, 65_535):
+            self.reported(14, count.to_bytes(2, "little") + reel[2:])
+        for count in (0, 1, 2):
+            self.reported(0, count.to_bytes(2, "little") + reel[2:])
+        apart = reel_of([b"a", b"bc", b"def"], 4 * [b"gap"])
+        pairs = pairs_in(apart)
+        for order in itertools.product(pairs, repeat=3):
+            number = 0 if list(order) == pairs else 14
+            self.reported(number, with_pairs(apart, order))
+
+    def test_14_pairs(self) -> None:
+        """One pair changed, at each place, to both sides of each bound."""
+        images, most = [TREES["B"], b"", BESTS["D"], b"x", b"", TREES["A"]], 2**32
+        begin = 2 + 8 * len(images)
+        for gap in (b"", b"gap", bytes(70_000)):
+            reel = reel_of(images, 7 * [gap])
+            pairs, size = pairs_in(reel), len(reel)
+            for x, (at, length) in enumerate(pairs):
+                before = sum(pairs[x - 1]) if x > 0 else begin
+                after = pairs[x + 1][0] if x < 5 else size
+                sound = [
+                    *((start, 0) for start in (before, at, after)),
+                    *((start, length) for start in (before, at, after - length)),
+                    *((start, after - start) for start in (before, at)),
+                ]
+                wrong = [
+                    # inside the directory, and before the forerunner's end
+                    *((start, 0) for start in (0, 1, 2, begin - 8, begin - 1)),
+                    *((start, length) for start in (0, 1, 2, begin - 8, begin - 1)),
+                    *((before - 1, end) for end in (0, 1, length, after - before)),
+                    # past the next one's start, or past the reel
+                    *((start, 0) for start in (after + 1, size + 1, most - 1)),
+                    *((start, 1) for start in (after, size, most // 2)),
+                    *((at, end + 1 - at) for end in (after, size, most - 2)),
+                    # with a sum that 32 bits do not hold
+                    *((at, most - at + end) for end in (0, 1, at - 1)),
+                    *((most - 1, 1 + end) for end in (0, begin, before, after)),
+                    *((most // 2, most // 2 + end) for end in (0, before, after)),
+                ]
+                for number, changes in ((0, sound), (14, wrong)):
+                    for pair in changes:
+                        new = pairs[:x] + [pair] + pairs[x + 1 :]
+                        self.reported(number, with_pairs(reel, new))
+
+    def test_tallies(self) -> None:
+        """14 comes before 2, which is a tally under 24 places; what is past them is
+        kept, and what is refused is kept as lent."""
+        mixed = reel_of([b"", TREES["B"], REFUSED[2][0], TREES["A"]])
+        late = with_pairs(mixed, pairs_in(mixed)[:3] + [(len(mixed), 1)])
+        for places in (0, 1, 17, 18, 22, 23, 24, 25, 30, 1000):
+            for reel in (b"\x00\x00", reel_of([b""]), mixed, mixed + b"tail"):
+                self.reported(2 if places < 24 else 0, reel, places)
+            for reel in (b"", b"\x00", b"\x01\x00", mixed[:-1], late):
+                self.reported(14, reel, places)
+
+    def test_14_text(self) -> None:
+        with self.assertRaises(wm.Refusal) as caught:
+            wm.report(b"")
+        text = (
+            "the reel is shorter than its directory,"
+            " or an image in it is out of order or out of bounds"
+        )
+        self.assertEqual(caught.exception.text, text)
+        self.assertEqual(str(caught.exception), f"refused 14: {text}")
+
     def test_exception(self) -> None:
         with self.assertRaises(ValueError) as caught:
             wm.solve([], [3], [4])
@@ -1057,7 +1383,7 @@ class Header(unittest.TestCase):
         texts = re.findall(r'"(.*)"', block.group(1))
         self.assertEqual(len(texts), 18)
         self.assertEqual([wm.refusal_text(k) for k in range(18)], texts)
-        for number in (14, 18, 2**32 - 1, -1):
+        for number in (18, 19, 2**32 - 1, -1):
             self.assertEqual(wm.refusal_text(number), "no such number")
 
     def test_constants(self) -> None:
@@ -1067,6 +1393,7 @@ class Header(unittest.TestCase):
         self.assertEqual(int(numbers["MAX_LENGTH"]), wm.MAX_LENGTH)
         self.assertEqual(int(numbers["MAX_TOTAL"]), wm.MAX_TOTAL)
         self.assertEqual(int(numbers["NO_VERTEX"]), wm._NO_VERTEX)
+        self.assertEqual(int(numbers["TALLY_PLACES"]), wm._TALLY_PLACES)
         self.assertEqual(int(numbers["RECORD_MAX"]), wm._RECORD_MAX)
         self.assertEqual(int(numbers["IMAGE_HEADER"]), wm._HEADER)
         self.assertEqual(int(numbers["IMAGE_WRITTEN_MAX"]), wm._WRITTEN_MAX)
@@ -1170,6 +1497,89 @@ class Inputs(unittest.TestCase):
             self.assertEqual(wm.read(form), whole)
             self.assertEqual(wm.rewrite(form), IMAGE_A)
             self.assertEqual(bytes(memoryview(form)), image)
+
+    def test_reels(self) -> None:
+        """Bytes, and buffers of them, which are not changed."""
+        images = [b"", TREES["B"], REFUSED[7][0], TREES["A"]]
+        reel = reel_of(images, [b"", b"gap", b"", b"", b"tail"])
+        sheet = wm.Report(2, [2, *6 * [0], 1, 0, 0, 0, 1, *12 * [0]], 34, 22, 3)
+        doubled = bytes(byte for byte in reel for _ in range(2))
+        forms: List[Any] = [
+            reel,
+            bytearray(reel),
+            array.array("B", reel),
+            array.array("b", memoryview(reel).cast("b")),
+            (ctypes.c_uint8 * len(reel))(*reel),
+        ]
+        views = [memoryview(form) for form in forms] + [memoryview(doubled)[::2]]
+        for form in forms + views:
+            self.assertEqual(wm.report(form), sheet)
+            self.assertEqual(bytes(memoryview(form)), reel)
+
+    def test_copies(self) -> None:
+        """Bytes are read where they are, and one copy is made of other buffers, since
+        they might change while the library works."""
+        reel = wm.pack([TREES["A"]]) + bytes(2**24)
+        forms: List[Any] = [reel, bytearray(reel), memoryview(reel)]
+        for form, copies in zip(forms, (0, 1, 1)):
+            tracemalloc.start()
+            self.assertEqual(wm.report(form).sum, 22)
+            peak = tracemalloc.get_traced_memory()[1]
+            tracemalloc.stop()
+            self.assertEqual(round(peak / len(reel)), copies, type(form))
+
+    def test_pack(self) -> None:
+        """Images in bytes and buffers of them, which are not changed, in lists and
+        iterables."""
+        doubled = bytes(byte for byte in IMAGE_A for _ in range(2))
+        images: List[Any] = [
+            IMAGE_A,
+            bytearray(IMAGE_A),
+            array.array("B", IMAGE_A),
+            array.array("b", memoryview(IMAGE_A).cast("b")),
+            (ctypes.c_uint8 * len(IMAGE_A))(*IMAGE_A),
+            memoryview(IMAGE_A),
+            memoryview(doubled)[::2],
+        ]
+        reel = reel_of(7 * [IMAGE_A])
+        kinds: List[Callable[[List[Any]], Any]] = [
+            list,
+            tuple,
+            iter,
+            lambda given: (image for image in given),
+            lambda given: dict(enumerate(given)).values(),
+        ]
+        for kind in kinds:
+            self.assertEqual(wm.pack(kind(images)), reel)
+        self.assertEqual([bytes(memoryview(image)) for image in images], 7 * [IMAGE_A])
+        self.assertEqual(wm.report(reel), sheet_of(7 * [(0, 22)]))
+
+    def test_what_does_not_fit_a_reel(self) -> None:
+        """Both sides of each bound; past it, nothing is put together."""
+        self.assertEqual(wm.pack(65_535 * [b""]), reel_of(65_535 * [b""]))
+        above: List[Any] = [65_536 * [b""], itertools.repeat(b"")]
+        for images in above:
+            with self.assertRaisesRegex(ValueError, "there are more than 65535"):
+                wm.pack(images)
+        block = bytes(2**26)
+        with self.assertRaisesRegex(ValueError, r"images\[64\]: 67108864 bytes from"):
+            wm.pack(65 * [block])
+        with self.assertRaisesRegex(ValueError, r"images\[65\]: 0 bytes from"):
+            wm.pack([b"x", bytes(2**26 - 530), *63 * [block], b""])
+        most = 2**32 - 1
+        heads: List[Tuple[List[int], List[int]]] = [
+            ([most], [10, most]),
+            ([most - 18, 0], [18, most - 18, most, 0]),
+            ([most - 18, most], [18, most - 18, most, most]),
+            ([5, most - 31, 7], [26, 5, 31, most - 31, most, 7]),
+        ]
+        for lengths, numbers in heads:
+            head = b"".join(number.to_bytes(4, "little") for number in numbers)
+            count = len(lengths).to_bytes(2, "little")
+            self.assertEqual(wm._directory(lengths), count + head)
+        others = [[most + 1], [most - 17, 0], [6, most - 31, 7], [5, most - 30, 7]]
+        for lengths in others + [[0, most + 1], [2**64]]:
+            self.assertRaises(ValueError, wm._directory, lengths)
 
     def test_weights(self) -> None:
         """Lists and buffers of floats are weights, for a painting too."""
@@ -1317,8 +1727,16 @@ class Inputs(unittest.TestCase):
         ]
         for image in (36, "image", None, [0, 1], array.array("I", range(20))):
             calls += [(call, (image,)) for call in (wm.run, wm.read, wm.rewrite)]
+            calls += [(wm.report, (image,)), (wm.pack, (image,))]
+            calls += [(wm.pack, ([image],)), (wm.pack, ([IMAGE_A, image],))]
+        for images in (IMAGE_A, range(3), {IMAGE_A}, {0: IMAGE_A}, {IMAGE_A: 0}):
+            calls.append((wm.pack, (images,)))
         for call, arguments in calls:
             self.assertRaises(TypeError, call, *arguments)
+        with self.assertRaisesRegex(TypeError, "reel: items of 4 bytes"):
+            wm.report(array.array("I", range(20)))
+        with self.assertRaisesRegex(TypeError, r"images\[1\]: items of 4 bytes"):
+            wm.pack([IMAGE_A, array.array("I", range(20))])
 
     @unittest.skipUnless(np, "numpy is not installed")
     def test_numpy(self) -> None:
@@ -1347,11 +1765,28 @@ class Inputs(unittest.TestCase):
             self.assertEqual(wm.run(np.frombuffer(image, dtype="u1")).cost, case.cost)
             spaced = np.frombuffer(image + b"tail", dtype="u1")
             self.assertEqual(wm.rewrite(spaced), IMAGE_A)
+            self.assertEqual(wm.pack([spaced[:-4], b""]), reel_of([IMAGE_A, b""]))
         records = np.array(edges, dtype=[("a", "u4"), ("b", "u4"), ("length", "u4")])
         self.assertEqual(wm.solve(records, mu, nu).cost, case.best)
         self.assertEqual(wm.vertices_within(4, records, 3, 1), [2, 3])
         self.assertEqual(type(wm.nearest_vertex(records, 1, np.array(mu))), int)
         self.assertEqual(type(wm.solve(records, np.array(mu), nu).cost), int)
+
+    @unittest.skipUnless(np, "numpy is not installed")
+    def test_numpy_reels(self) -> None:
+        images = [b"", TREES["B"], TREES["A"]]
+        reel = reel_of(images, [b"", b"gap", b"", b"tail"])
+        sheet = sheet_of([(11, 0), (0, 12), (0, 22)])
+        for kind in ("u1", "i1", "S1", "V1"):
+            table = np.frombuffer(reel, dtype=kind)  # its bytes cannot be changed
+            forms = [table, table.copy(), np.repeat(table, 3)[::3], table[::-1][::-1]]
+            for form in forms + [table.reshape(1, -1), table.reshape(-1, 1)]:
+                self.assertEqual(wm.report(form), sheet)
+                self.assertEqual(form.tobytes(), reel)
+        rows = np.frombuffer(3 * IMAGE_A, dtype="u1").reshape(3, -1)
+        self.assertEqual(wm.pack(rows), reel_of(3 * [IMAGE_A]))
+        self.assertEqual(wm.pack(rows[:, ::-1]), reel_of(3 * [IMAGE_A[::-1]]))
+        self.assertEqual(wm.pack(rows.T[:2]), reel_of([3 * b"\x04", bytes(3)]))
 
     @unittest.skipUnless(np, "numpy is not installed")
     def test_numpy_weights(self) -> None:
@@ -1407,9 +1842,12 @@ class Inputs(unittest.TestCase):
             wm.vertices_within(4, edges, 0, np.float32(1))
         with self.assertRaises(TypeError):
             wm.solve(np.array(edges).T[:2].T, mu, nu)
-        for call in (wm.run, wm.read, wm.rewrite):
+        for call in (wm.run, wm.read, wm.rewrite, wm.report):
             with self.assertRaises(TypeError):
                 call(np.zeros(36, dtype="i4"))
+        for wrong in (np.zeros(36, dtype="u1"), np.zeros((2, 36), dtype="u2")):
+            with self.assertRaises(TypeError):
+                wm.pack(wrong)
 
 
 class Surroundings(unittest.TestCase):
@@ -1425,7 +1863,10 @@ class Surroundings(unittest.TestCase):
         self.assertIn("of a stroke, vertex 0 gives 0.25 to 7 and 0.5 to 8", lines)
         self.assertIn("a brush of 13 mm at vertex 4 covers [1, 3, 4, 5]", lines)
         self.assertIn("the weight nearest to vertex 2 is at 5, 12.57 mm away", lines)
-        self.assertEqual(len(lines), 20)
+        self.assertIn("of 3 images 2 are accepted", lines)
+        self.assertIn("  image 2 costs the most, 31.11", lines)
+        self.assertIn("  1 refused by 7: the two totals differ", lines)
+        self.assertEqual(len(lines), 23)
         self.assertEqual(lines[-1], "refused 7: the two totals differ")
 
     def test_docstring(self) -> None:
@@ -1437,9 +1878,20 @@ class Surroundings(unittest.TestCase):
         """Each call can be imported; those on trees are methods."""
         calls = {name[len("mover_") :] for name in wm._SIGNATURES}
         names = {name for name in calls if not name.startswith("tree_")}
-        names = names - {"write_image"} | {"write", "Tree"}
+        names = names - {"write_image"} | {"write", "pack", "Tree"}
         self.assertEqual(names - set(wm.__all__), set())
         self.assertTrue(all(hasattr(wm, name) for name in wm.__all__))
+
+    def test_help(self) -> None:
+        """All that can be imported is shown, and reels are told of at the top."""
+        text = pydoc.plain(pydoc.render_doc(wm))
+        for name in wm.__all__:
+            kind = getattr(wm, name)
+            shown = f"class {name}(" if isinstance(kind, type) else f"    {name}("
+            self.assertIn(shown if callable(kind) else f"    {name} = ", text)
+        self.assertIn(wm.__version__, text)
+        for name in ("reel", "`pack`", "`report`"):
+            self.assertIn(name, wm.__doc__)
 
     def test_library_elsewhere(self) -> None:
         load = wm._library.__wrapped__
@@ -1460,6 +1912,12 @@ class Surroundings(unittest.TestCase):
             for _ in range(3):
                 at_once = list(pool.map(lambda problem: wm.solve(*problem), given))
                 self.assertEqual(at_once, alone)
+
+    def test_threads_with_one_reel(self) -> None:
+        reel = wm.pack([wm.write(*problem) for _, _, problem in problems("reel", 100)])
+        with ThreadPoolExecutor(8) as pool:
+            at_once = list(pool.map(wm.report, 40 * [reel]))
+        self.assertEqual(at_once, 40 * [wm.report(reel)])
 
 
 # ---- Random patches
@@ -1566,6 +2024,56 @@ class ByDefinition(unittest.TestCase):
             self.assertEqual(outcome(wm.read, image)[0], number, name)
             met[number] += 1
         self.assertGreater(min(met.values()), CASES // 100)
+
+    def test_report(self) -> None:
+        """By the module and by the call. What `run` says of each image makes the same
+        sheet, and so do the images without their gaps."""
+        numbers = {number: 0 for number in NUMBERS}
+        met = {"refused before": 0, "a tie": 0, "costless": 0, "none": 0, "large": 0}
+        for name, draw in draws("reels", 100 + CASES // 10):
+            reel = random_reel(draw)
+            wanted = report(reel)[1]
+            self.assertEqual(wm.report(reel), wanted, name)
+            places = draw.choice([24, 24, 25, 30, 100])
+            found = ask_report(reel, places)
+            self.assertEqual(found, left(0, wanted, lent_tally(places)), name)
+            images = images_of(reel)
+            self.assertEqual(wm.report(wm.pack(images)), wanted, name)
+            runs = [outcome(wm.run, image) for image in images]
+            answers = [(number, run.cost if run else 0) for number, run in runs]
+            self.assertEqual(sheet_of(answers), wanted, name)
+            for number in numbers:
+                numbers[number] += wanted.tally[number]
+            met["refused before"] += 0 < wanted.first < len(images) and runs[0][0] != 0
+            met["a tie"] += answers.count((0, wanted.greatest)) > 1
+            met["costless"] += wanted.accepted > 0 == wanted.greatest
+            met["none"] += wanted.accepted == 0
+            met["large"] += wanted.sum >= 2**32
+        self.assertGreater(min(numbers.values()), CASES // 200, numbers)
+        self.assertGreater(min(met.values()), CASES // 200, met)
+
+    def test_damaged_reels(self) -> None:
+        """With one pair or two, the count or the size changed, and tallies that are too
+        short."""
+        met = {0: 0, 2: 0, 14: 0}
+        for name, draw in draws("damaged reels", CASES // 2):
+            reel = damaged_reel(draw, small_reel(draw))
+            places = draw.choice([0, 18, 23, 24, 24, 24, 24, 25, 30])
+            number, sheet = report(reel, places)
+            wanted = left(number, sheet, lent_tally(places))
+            self.assertEqual(ask_report(reel, places), wanted, name)
+            self.assertEqual(outcome(wm.report, reel), report(reel), name)
+            met[number] += 1
+        self.assertGreater(min(met.values()), CASES // 100, met)
+
+    def test_pack(self) -> None:
+        """Images of a random reel, back to back; they are read back as they were."""
+        for name, draw in draws("packs", CASES // 20):
+            images = images_of(draw.choice([random_reel, small_reel])(draw))
+            packed = wm.pack(images)
+            self.assertEqual(packed, reel_of(images), name)
+            self.assertTrue(in_place(packed), name)
+            self.assertEqual(images_of(packed), images, name)
 
     def test_trees(self) -> None:
         """Trees, and trees with a wrong parent or root."""
@@ -1788,6 +2296,7 @@ class WrongAnswers(unittest.TestCase):
         record = [(-1, byte) for byte in (0, 8, 12, 13, 13 + 1, 13 + 5)]
         lists = [(place, 0) for place in range(-10, 0)]
         image = [(-2, byte) for byte in (*range(40), -1)] + [(-1, 0)]
+        sheet = [(-5, k) for k in range(24)] + [(place, 0) for place in range(-4, 0)]
         tests: List[Tuple[Type[unittest.TestCase], str, List[Tuple[int, int]]]] = [
             (MarkedCases, "solve", at_end),
             (ByDefinition, "solve", at_end),
@@ -1811,6 +2320,8 @@ class WrongAnswers(unittest.TestCase):
             (ByDefinition, "write_image", image),
             (MarkedCases, "rewrite", image),
             (ByDefinition, "rewrite", image),
+            (MarkedCases, "report", sheet),
+            (ByDefinition, "report", sheet),
         ]
         for test, name, places in tests:
             for place, item in places:
@@ -1820,7 +2331,8 @@ class WrongAnswers(unittest.TestCase):
                 self.assertTrue(result.failures, (test, name, place, item))
 
     def test_images(self) -> None:
-        """A writer or rewriter that is wrong in another way, and a test fails."""
+        """A writer, rewriter or packer that is wrong in another way, and a test
+        fails."""
 
         def tail_off(image: bytes) -> bytes:
             at, length = directory(image)[3]
@@ -1830,6 +2342,14 @@ class WrongAnswers(unittest.TestCase):
             patch = wm.read(image)
             return write(patch.edges, patch.mu, patch.nu, patch.root, patch.parents)
 
+        def from_the_directory(images: List[bytes]) -> bytes:
+            begin, reel = 2 + 8 * len(images), reel_of(images)
+            return with_pairs(reel, [(at - begin, n) for at, n in pairs_in(reel)])
+
+        def padded(images: List[bytes]) -> bytes:
+            gaps = [bytes(-len(image) % 4) for image in images]
+            return reel_of(images, [b"", *gaps])
+
         write = wm.write
         wrong: List[Tuple[str, str, Callable[..., Any]]] = [
             ("rewrite", "rewrite", bytes),
@@ -1838,22 +2358,33 @@ class WrongAnswers(unittest.TestCase):
             ("write", "write_image", lambda a, mu, *rest: write(a, mu, mu, *rest[1:])),
             ("write", "write_image", lambda a, mu, nu, *tree: write(a, mu, nu)),
             ("write", "write_image", image_of),
+            ("pack", "pack", from_the_directory),
+            ("pack", "pack", padded),
+            ("pack", "pack", lambda images: reel_of(images[::-1])),
+            ("pack", "pack", lambda images: reel_of(sorted(images))),
+            ("pack", "pack", lambda images: reel_of([x for x in images if x])),
+            ("pack", "pack", lambda images: reel_of(list(dict.fromkeys(images)))),
         ]
         for name, test, call in wrong:
-            result = unittest.TestResult()
-            with mock.patch.object(wm, name, call):
-                ByDefinition(f"test_{test}").run(result)
-            self.assertTrue(result.failures, (name, call))
+            tests: List[Type[unittest.TestCase]] = [ByDefinition]
+            for kind in tests + ([MarkedCases] if name == "pack" else []):
+                result = unittest.TestResult()
+                with mock.patch.object(wm, name, call):
+                    kind(f"test_{test}").run(result)
+                self.assertTrue(result.failures, (name, call, kind))
 
     def passes(
-        self, call: str, query: Query, test: unittest.TestCase, cases: int = 2000
+        self, library: Callable[..., Any], test: unittest.TestCase, cases: int = 2000
     ) -> bool:
-        """Whether a test passes when a query is answered otherwise. The patches are
-        many, since some faults show on few of them; the first that does ends a test."""
+        """Whether a test passes when a call is answered otherwise. The patches are
+        many, since some faults show on few of them; the first that does ends a test.
+        What is answered otherwise may be a refusal, but raises nothing else."""
         result = unittest.TestResult()
-        with mock.patch.object(wm, "_call", answering(call, query)):
+        with mock.patch.object(wm, "_call", library):
             with mock.patch.dict(globals(), CASES=cases):
                 test.run(result)
+        errors = [error for _, error in result.errors]
+        self.assertEqual([error for error in errors if "Refusal: " not in error], [])
         return result.wasSuccessful()
 
     def test_right_queries(self) -> None:
@@ -1867,7 +2398,8 @@ class WrongAnswers(unittest.TestCase):
                 Refusals("test_6_total"),
                 ByDefinition("test_faulty_queries"),
             ):
-                self.assertTrue(self.passes(call, query, test, 200), (call, test))
+                library = answering(call, query)
+                self.assertTrue(self.passes(library, test, 200), (call, test))
 
     def test_queries(self) -> None:
         """A query that goes by other distances or answers otherwise, and tests fail."""
@@ -1876,8 +2408,9 @@ class WrongAnswers(unittest.TestCase):
             ("nearest_vertex", wrong_nearest()),
         ):
             for name, query in {**wrong_distances(call), **others}.items():
+                library = answering(call, query)
                 for test in (MarkedCases(f"test_{call}"), ByDefinition(f"test_{call}")):
-                    self.assertFalse(self.passes(call, query, test), (call, name, test))
+                    self.assertFalse(self.passes(library, test), (call, name, test))
 
     def test_refusals_of_queries(self) -> None:
         """A query that refuses otherwise, and tests fail."""
@@ -1888,8 +2421,45 @@ class WrongAnswers(unittest.TestCase):
             ("nearest_vertex", "test_lists_of_queries", wrong_lists()),
         ):
             for name, query in wrong.items():
+                library = answering(call, query)
                 for test in (Refusals(by_hand), ByDefinition("test_faulty_queries")):
-                    self.assertFalse(self.passes(call, query, test), (call, name, test))
+                    self.assertFalse(self.passes(library, test), (call, name, test))
+
+    def test_right_reports(self) -> None:
+        """The definition in place of the library passes the tests of reports."""
+        for test in (
+            MarkedCases("test_report"),
+            MarkedCases("test_report_of_each"),
+            MarkedCases("test_images_with_a_gap_behind"),
+            ByDefinition("test_report"),
+            Refusals("test_14_reels"),
+            Refusals("test_14_pairs"),
+            Refusals("test_tallies"),
+            ByDefinition("test_damaged_reels"),
+        ):
+            library = reporting(right_report)
+            self.assertTrue(self.passes(library, test, 200), test)
+
+    def test_reports(self) -> None:
+        """A report that counts, sums or chooses otherwise, or takes other bytes for an
+        image, and tests fail."""
+        for name, wrong in {**wrong_sheets(), **wrong_images()}.items():
+            for test in (MarkedCases("test_report"), ByDefinition("test_report")):
+                passed = self.passes(reporting(wrong), test)
+                self.assertFalse(passed, (name, test))
+
+    def test_refusals_of_reports(self) -> None:
+        """A report that refuses otherwise, or not, or leaves something, and tests
+        fail."""
+        for by_hand, group in (
+            ("test_14_reels", wrong_reels()),
+            ("test_14_pairs", wrong_pairs()),
+            ("test_tallies", wrong_tallies()),
+        ):
+            for name, wrong in group.items():
+                for test in (Refusals(by_hand), ByDefinition("test_damaged_reels")):
+                    passed = self.passes(reporting(wrong), test)
+                    self.assertFalse(passed, (name, test))
 
 
 def spoil(spoiled: str, place: int, item: int) -> Callable[..., Any]:
@@ -2132,6 +2702,405 @@ def wrong_totals() -> Dict[str, Query]:
     }
 
 
+# From a reel and the tally that is lent: what the report leaves.
+Reporting = Callable[[bytes, List[int]], Left]
+Answers = List[Tuple[int, int]]  # the numbers and costs of images
+
+
+def reporting(wrong: Reporting) -> Callable[..., Any]:
+    """The library with another report."""
+    real = wm._call
+
+    def other(name: str, *arguments: Any) -> Any:
+        if name != "mover_report":
+            return real(name, *arguments)
+        reel, tally, *results = arguments
+        number, tally[:], values = wrong(bytes(reel), list(tally))
+        for result, value in zip(results, values):
+            if value != KEPT:
+                result._obj.value = value
+        return number
+
+    return other
+
+
+def right_report(reel: bytes, tally: List[int]) -> Left:
+    return left(*report(reel, len(tally)), tally)
+
+
+def answers_in(reel: bytes) -> Answers:
+    return [answer_to(image) for image in images_of(reel)]
+
+
+def wrong_sheets() -> Dict[str, Reporting]:
+    """Other sheets of the right answers. The refusals are right."""
+
+    def parts(change: Callable[[wm.Report, Answers], Dict[str, Any]]) -> Reporting:
+        def other(reel: bytes, tally: List[int]) -> Left:
+            number, sheet = report(reel, len(tally))
+            if number == 0:
+                new = change(sheet, answers_in(reel))
+                sheet = dataclasses.replace(sheet, **new)
+            return left(number, sheet, tally)
+
+        return other
+
+    def first(choose: Callable[[List[int], Answers], int]) -> Reporting:
+        """Another first, from the images that have the greatest cost."""
+
+        def change(sheet: wm.Report, answers: Answers) -> Dict[str, Any]:
+            have = [x for x, a in enumerate(answers) if a == (0, sheet.greatest)]
+            return {"first": choose(have, answers)} if have else {}
+
+        return parts(change)
+
+    def none(choose: Callable[[int], int]) -> Reporting:
+        """Another first where no image is accepted."""
+        return parts(
+            lambda sheet, answers: {
+                "first": sheet.first if sheet.accepted else choose(len(answers))
+            }
+        )
+
+    def greatest(key: Callable[[int], int]) -> Reporting:
+        """Another greatest, and the first image that has it."""
+
+        def change(sheet: wm.Report, answers: Answers) -> Dict[str, Any]:
+            costs = {x: cost for x, (number, cost) in enumerate(answers) if number == 0}
+            if not costs:
+                return {}
+            first = max(costs, key=lambda x: (key(costs[x]), -x))
+            return {"first": first, "greatest": costs[first]}
+
+        return parts(change)
+
+    def tallied(change: Callable[[List[int], List[int]], List[int]]) -> Reporting:
+        """Another tally, from what was lent and what is right."""
+
+        def other(reel: bytes, tally: List[int]) -> Left:
+            number, right, results = right_report(reel, tally)
+            return number, change(tally, right) if number == 0 else tally, results
+
+        return other
+
+    return {
+        "the last": first(lambda have, answers: have[-1]),
+        "the first accepted": first(
+            lambda have, answers: [number for number, _ in answers].index(0)
+        ),
+        "counted from 1": first(lambda have, answers: have[0] + 1),
+        "counted among the accepted": first(
+            lambda have, answers: [number for number, _ in answers[: have[0]]].count(0)
+        ),
+        "a refused image that costs 0": first(
+            lambda have, answers: [cost for _, cost in answers].index(
+                answers[have[0]][1]
+            )
+        ),
+        "image 0 if none costs anything": first(
+            lambda have, answers: have[0] if answers[have[0]][1] > 0 else 0
+        ),
+        "none if none costs anything": first(
+            lambda have, answers: have[0] if answers[have[0]][1] > 0 else len(answers)
+        ),
+        "8 bits of an index": first(lambda have, answers: have[0] % 256),
+        "image 0 if none is accepted": none(lambda count: 0),
+        "the last if none is accepted": none(lambda count: max(count - 1, 0)),
+        "all bits if none is accepted": none(lambda count: 2**64 - 1),
+        "the least": greatest(lambda cost: -cost),
+        "32 bits compared": greatest(lambda cost: cost % 2**32),
+        "32 bits of the greatest": parts(
+            lambda sheet, answers: {"greatest": sheet.greatest % 2**32}
+        ),
+        "32 bits of the sum": parts(lambda sheet, answers: {"sum": sheet.sum % 2**32}),
+        "each cost once in the sum": parts(
+            lambda sheet, answers: {"sum": sum({cost for _, cost in answers})}
+        ),
+        "all as accepted": parts(lambda sheet, answers: {"accepted": len(answers)}),
+        "added to what was lent": tallied(
+            lambda lent, right: [a + b for a, b in zip(lent[:24], right)] + right[24:]
+        ),
+        "18 places written": tallied(lambda lent, right: right[:18] + lent[18:]),
+        "places without an image kept": tallied(
+            lambda lent, right: [b if b > 0 else a for a, b in zip(lent, right)]
+        ),
+        "the rest made 0": tallied(
+            lambda lent, right: right[:24] + len(right[24:]) * [0]
+        ),
+    }
+
+
+def wrong_images() -> Dict[str, Reporting]:
+    """Sheets of other images, or of other answers to them. But for an image's 2, the
+    refusals are right."""
+
+    def answered(answers: Callable[[bytes], Answers]) -> Reporting:
+        def other(reel: bytes, tally: List[int]) -> Left:
+            number, _ = report(reel, len(tally))
+            return left(number, number or sheet_of(answers(reel)), tally)
+
+        return other
+
+    def each(answer: Callable[[bytes], Tuple[int, int]]) -> Reporting:
+        return answered(lambda reel: [answer(image) for image in images_of(reel)])
+
+    def cut(change: Callable[[int, int, int], Tuple[int, int]]) -> Reporting:
+        """Other bytes, from an image's start and end and where the next one starts."""
+
+        def answers(reel: bytes) -> Answers:
+            pairs = pairs_in(reel)
+            after = [at for at, _ in pairs[1:]] + [len(reel)]
+            places = [
+                slice(*change(at, at + n, end)) for (at, n), end in zip(pairs, after)
+            ]
+            return [answer_to(reel[place]) for place in places]
+
+        return answered(answers)
+
+    def without_tree(image: bytes) -> Tuple[int, int]:
+        number, cost = answer_to(image)
+        if number in (0, 8, 9, 10):
+            return answer_to(image_of(*contents_of(image)[:3]))
+        return number, cost
+
+    def kept_record(reel: bytes) -> Answers:
+        """A refused image costs what was accepted last."""
+        cost, found = 0, []
+        for number, own in answers_in(reel):
+            cost = own if number == 0 else cost
+            found.append((0, cost))
+        return found
+
+    def until_refused(reel: bytes) -> Answers:
+        answers = answers_in(reel)
+        return list(itertools.takewhile(lambda answer: answer[0] == 0, answers))
+
+    def own_two(reel: bytes, tally: List[int]) -> Left:
+        number, sheet = report(reel, len(tally))
+        return left(2 if number == 0 and sheet.tally[2] > 0 else number, sheet, tally)
+
+    return {
+        "the best cost for a tree": each(
+            lambda image: without_tree(image)
+            if answer_to(image)[0] == 0
+            else answer_to(image)
+        ),
+        "trees not looked at": each(without_tree),
+        "a record that is kept": answered(kept_record),
+        "an image's 2": own_two,
+        "until one is refused": answered(until_refused),
+        "empty images left out": answered(
+            lambda reel: [answer_to(image) for image in images_of(reel) if image]
+        ),
+        "each image once": answered(
+            lambda reel: [answer_to(image) for image in dict.fromkeys(images_of(reel))]
+        ),
+        "the first left out": answered(lambda reel: answers_in(reel)[1:]),
+        "the last left out": answered(lambda reel: answers_in(reel)[:-1]),
+        "8 bits of the count": answered(lambda reel: answers_in(reel)[: reel[0]]),
+        "up to the next": cut(lambda at, end, after: (at, after)),
+        "a byte less": cut(lambda at, end, after: (at, max(at, end - 1))),
+        "16 bits of an offset": cut(
+            lambda at, end, after: (at % 2**16, at % 2**16 + end - at)
+        ),
+        "16 bits of a length": cut(
+            lambda at, end, after: (at, at + (end - at) % 2**16)
+        ),
+        "65,536 bytes": cut(lambda at, end, after: (at, min(end, at + 65_536))),
+    }
+
+
+def refusing(images: Callable[[bytes], Optional[List[bytes]]]) -> Reporting:
+    """A report with another check 14, from what gives the images or None."""
+
+    def other(reel: bytes, tally: List[int]) -> Left:
+        found = images(reel)
+        if found is None or len(tally) < 24:
+            return left(14 if found is None else 2, [], tally)
+        return left(0, sheet_of([answer_to(image) for image in found]), tally)
+
+    return other
+
+
+def wrong_reels() -> Dict[str, Reporting]:
+    """Reels of other sizes and counts, or in another order, refused or not."""
+
+    def right(reel: bytes) -> Optional[List[bytes]]:
+        return images_of(reel) if in_place(reel) else None
+
+    def some(keep: Callable[[bytes], bool]) -> Reporting:
+        return refusing(
+            lambda reel: images_of(reel) if in_place(reel) and keep(reel) else None
+        )
+
+    def in_any_order(reel: bytes) -> Optional[List[bytes]]:
+        if len(reel) < 2 or len(reel) < directory_end(reel):
+            return None
+        pairs = pairs_in(reel)
+        return images_of(reel) if in_place(with_pairs(reel, sorted(pairs))) else None
+
+    return {
+        "no bytes taken": refusing(lambda reel: right(reel or bytes(2))),
+        "one byte taken": refusing(lambda reel: right(reel + bytes(len(reel) == 1))),
+        "no images refused": some(lambda reel: reel[:2] != bytes(2)),
+        "8 bits of the count": refusing(
+            lambda reel: right(reel[:1] + bytes(1) + reel[2:])
+        ),
+        "over 65,536 bytes refused": some(lambda reel: len(reel) <= 65_536),
+        "a tail refused": some(
+            lambda reel: len(reel) == max([2, *map(sum, pairs_in(reel))])
+        ),
+        "in any order": refusing(in_any_order),
+    }
+
+
+class Place(NamedTuple):
+    """A pair of a reel, with what it is compared with."""
+
+    at: int
+    end: int
+    before: int  # its forerunner's end, or for the first pair the directory's
+    forerunner: int  # its forerunner's start, or for the first pair the directory's end
+    begin: int  # the directory's end
+    size: int
+    last: bool
+
+
+def wrong_pairs() -> Dict[str, Reporting]:
+    """Another check of the pairs, each in its turn."""
+
+    def walking(fine: Callable[[Place], bool], bits: int = 64) -> Reporting:
+        def images(reel: bytes) -> Optional[List[bytes]]:
+            if len(reel) < 2 or len(reel) < directory_end(reel):
+                return None
+            begin, pairs = directory_end(reel), pairs_in(reel)
+            before = forerunner = begin
+            for x, (at, length) in enumerate(pairs, 1):
+                end = (at + length) % 2**bits
+                given = at, end, before, forerunner, begin, len(reel), x == len(pairs)
+                if not fine(Place(*given)):
+                    return None
+                before, forerunner = end, at
+            return images_of(reel)
+
+        return refusing(images)
+
+    def starting(fine: Callable[[Place], bool]) -> Reporting:
+        return walking(lambda pair: fine(pair) and pair.end <= pair.size)
+
+    def ending(fine: Callable[[Place], bool]) -> Reporting:
+        return walking(lambda pair: pair.before <= pair.at and fine(pair))
+
+    def unless(free: Callable[[Place], bool]) -> Reporting:
+        return walking(
+            lambda pair: free(pair) or pair.before <= pair.at and pair.end <= pair.size
+        )
+
+    def inside(bound: Callable[[int], int]) -> Reporting:
+        """Where the first pair may start, from the directory's end."""
+        return starting(
+            lambda pair: pair.at
+            >= (bound(pair.begin) if pair.forerunner == pair.begin else pair.before)
+        )
+
+    return {
+        "no pair looked at": walking(lambda pair: True),
+        "inside the directory": inside(lambda begin: 0),
+        "inside the directory, not the count": inside(lambda begin: 2),
+        "inside the last pair": inside(lambda begin: begin - 8),
+        "at the directory's last byte": inside(lambda begin: begin - 1),
+        "not right behind the directory": inside(lambda begin: begin + 1),
+        "the forerunner not looked at": starting(lambda pair: pair.begin <= pair.at),
+        "behind the forerunner's start": starting(
+            lambda pair: pair.begin <= pair.at and pair.forerunner <= pair.at
+        ),
+        "on the forerunner's last byte": starting(
+            lambda pair: max(pair.before - 1, pair.begin) <= pair.at
+        ),
+        "not right behind the forerunner": starting(
+            lambda pair: pair.before < pair.at or pair.begin == pair.at
+        ),
+        "without a gap": starting(lambda pair: pair.before == pair.at),
+        "the end not looked at": ending(lambda pair: True),
+        "a byte past the end": ending(lambda pair: pair.end <= pair.size + 1),
+        "not up to the end": ending(lambda pair: pair.end < pair.size),
+        "starts before the end": ending(lambda pair: pair.at <= pair.size),
+        "32 bits of an end": walking(
+            lambda pair: pair.before <= pair.at and pair.end <= pair.size, 32
+        ),
+        "empty ones not looked at": unless(lambda pair: pair.at == pair.end),
+        "the first not looked at": unless(lambda pair: pair.forerunner == pair.begin),
+        "the last not looked at": unless(lambda pair: pair.last),
+    }
+
+
+def wrong_tallies() -> Dict[str, Reporting]:
+    """Other lengths of a tally that are refused, 2 and 14 in another order, and
+    refusals that leave something."""
+
+    def wanting(places: int) -> Reporting:
+        def other(reel: bytes, tally: List[int]) -> Left:
+            number, sheet = report(reel)
+            if number == 0 and len(tally) < places:
+                return left(2, [], tally)
+            number, new, results = left(number, sheet, tally)
+            return number, new[: len(tally)], results
+
+        return other
+
+    def leaving(change: Callable[[int, bytes, List[int]], Left]) -> Reporting:
+        def other(reel: bytes, tally: List[int]) -> Left:
+            number, sheet = report(reel, len(tally))
+            if number == 0:
+                return left(number, sheet, tally)
+            return change(number, reel, tally)
+
+        return other
+
+    def results(values: Callable[[bytes], List[int]]) -> Reporting:
+        return leaving(lambda number, reel, tally: (number, tally, values(reel)))
+
+    def so_far(number: int, reel: bytes, tally: List[int]) -> Left:
+        """The sheet of the images before the pair that is refused."""
+        if len(reel) < 2 or len(reel) < directory_end(reel):
+            return left(number, [], tally)
+        answers, end = [], directory_end(reel)
+        for (at, length), image in zip(pairs_in(reel), images_of(reel)):
+            if at < end or at + length > len(reel):
+                break
+            answers.append(answer_to(image))
+            end = at + length
+        _, new, results = left(0, sheet_of(answers), tally)
+        return number, new[: len(tally)], results
+
+    return {
+        "any places": wanting(0),
+        "18 places": wanting(18),
+        "23 places": wanting(23),
+        "25 places": wanting(25),
+        "2 before 14": lambda reel, tally: left(
+            *(report(reel) if len(tally) >= 24 else (2, [])), tally
+        ),
+        "refused after the images": leaving(so_far),
+        "the tally of the images left": leaving(
+            lambda *given: (given[0], so_far(*given)[1], [0, 0, 0, 0])
+        ),
+        "the results of the images left": leaving(
+            lambda *given: (given[0], given[2], so_far(*given)[2])
+        ),
+        "the tally made 0": leaving(
+            lambda number, reel, tally: (number, len(tally) * [0], [0, 0, 0, 0])
+        ),
+        "accepted kept": results(lambda reel: [KEPT, 0, 0, 0]),
+        "the sum kept": results(lambda reel: [0, KEPT, 0, 0]),
+        "the greatest kept": results(lambda reel: [0, 0, KEPT, 0]),
+        "the first kept": results(lambda reel: [0, 0, 0, KEPT]),
+        "the count as the first": results(
+            lambda reel: [0, 0, 0, int.from_bytes(reel[:2], "little")]
+        ),
+    }
+
+
 @unittest.skipUnless(nx, "networkx is not installed")
 class AgainstNetworkx(unittest.TestCase):
     """Random patches, each answer compared with networkx's."""
@@ -2167,6 +3136,11 @@ class AgainstNetworkx(unittest.TestCase):
                 judged[optimal] += 1
         print(f"judged best {judged[True]}, not best {judged[False]}", flush=True)
         self.assertGreater(min(judged.values()), CASES // 4)
+
+    def test_least_cost(self) -> None:
+        """The costs that reports are held to."""
+        for name, _, problem in problems("least", CASES // 10):
+            self.assertEqual(least_cost(problem), self.least_cost(problem), name)
 
     def graph(self, n: int, edges: List[wm.Edge]) -> Any:
         graph = nx.Graph()

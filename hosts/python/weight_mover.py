@@ -40,6 +40,19 @@ An image is a patch with its paintings and, if there is one, a tree in bytes. `w
 gives equal patches equal bytes and different ones different bytes; images from
 elsewhere, with gaps in them, can be compared once `rewrite` has taken the gaps out.
 
+A reel holds the images of a whole sequence. `pack` puts them into one, and `report`
+gives one sheet for all of them: how many are accepted, how many are refused by which
+number, and what the accepted ones cost.
+
+    >>> there = weight_mover.write(edges, mu=[3, 0, 0], nu=[0, 3, 0])
+    >>> wrong = weight_mover.write(edges, mu=[3, 0, 0], nu=[0, 4, 0])
+    >>> further = weight_mover.write(edges, mu=[4, 0, 0], nu=[0, 4, 0])
+    >>> sheet = weight_mover.report(weight_mover.pack([there, wrong, further]))
+    >>> sheet.accepted, sheet.refused
+    (2, {7: 1})
+    >>> sheet.sum, sheet.greatest, sheet.first
+    (14, 8, 2)
+
 Numbers may come in lists, tuples, other sequences and iterables, and in buffers such as
 `array.array` and numpy arrays; edges also as a numpy array of three columns. What the
 library does not accept raises `Refusal`, what is no number or no whole one where that
@@ -71,12 +84,14 @@ from ctypes import (
     c_uint8,
     c_uint32,
     c_uint64,
+    cast,
 )
 from dataclasses import dataclass, field
 from functools import lru_cache
 from numbers import Rational, Real
 from typing import (
     Any,
+    Dict,
     Iterable,
     List,
     Optional,
@@ -90,11 +105,13 @@ __all__ = [
     "Answer",
     "Evaluation",
     "MAX_EDGES",
+    "MAX_IMAGES",
     "MAX_LENGTH",
     "MAX_TOTAL",
     "MAX_VERTICES",
     "Patch",
     "Refusal",
+    "Report",
     "Tree",
     "distances",
     "distances_of_records",
@@ -102,8 +119,10 @@ __all__ = [
     "is_optimal",
     "mark_ancestors",
     "nearest_vertex",
+    "pack",
     "read",
     "refusal_text",
+    "report",
     "rewrite",
     "run",
     "solve",
@@ -112,12 +131,13 @@ __all__ = [
     "vertices_within",
     "write",
 ]
-__version__ = "0.3.1"
+__version__ = "0.3.2"
 
 MAX_VERTICES = 64
 MAX_EDGES = 512
 MAX_LENGTH = 65_535  # hundredths of a millimetre
 MAX_TOTAL = 16_777_216  # grains
+MAX_IMAGES = 65_535  # in a reel
 
 Edge = Tuple[int, int, int]  # a, b, length
 Entry = Tuple[int, int, int]  # from, to, amount
@@ -148,7 +168,8 @@ _TEXTS = (
     "a section of the image is out of order or out of bounds",
     "byte 1 of the image is not 0, a section has the wrong length,"
     " or a number is too large for an image",
-    _UNKNOWN,
+    "the reel is shorter than its directory,"
+    " or an image in it is out of order or out of bounds",
     "a weight is below 0, above 1 or no number, or an amount is above 16777216",
     "a weight is no whole number of grains",
     "the start is no vertex",
@@ -163,11 +184,12 @@ def refusal_text(number: int) -> str:
 class Refusal(ValueError):
     """The library refuses what it was given.
 
-    `number` says which check failed, 1 to 13 or 15 to 17, and `text` what it means. The
-    checks run in the order 11, 12, 13 and then 1 to 10; each call says by which it
-    refuses. `write` alone has 13 last, after 1 and 2; calls from a start vertex have 17
-    last, after 5 or 6. Before all of them, weights are refused by 15 and then 16, those
-    of mu first.
+    `number` says which check failed, 1 to 17, and `text` what it means. The checks run
+    in the order 11, 12, 13 and then 1 to 10; each call says by which it refuses.
+    `write` alone has 13 last, after 1 and 2; calls from a start vertex have 17 last,
+    after 5 or 6. Before all of them, weights are refused by 15 and then 16, those of mu
+    first. 14 is for `report` alone, which has no other: it counts what the images of
+    its reel are refused by.
     """
 
     def __init__(self, number: int) -> None:
@@ -299,6 +321,7 @@ _GIVEN_TREE = [c_size_t] + _U32S
 _COST_AND_MOVES = [POINTER(c_uint64), POINTER(c_uint32)]
 _N_M_ROOT_TREE = 3 * [POINTER(c_size_t)] + [POINTER(c_uint32)]
 _WRITTEN = _BYTES + [POINTER(c_size_t)]
+_SHEET = [POINTER(item) for item in (c_uint32, c_uint64, c_uint64, c_size_t)]
 
 # What each call of hosts/c/mover.h returns and takes.
 _SIGNATURES = {
@@ -326,6 +349,7 @@ _SIGNATURES = {
     "mover_write_image": (c_uint32, _PROBLEM + [c_bool] + _GIVEN_TREE + _WRITTEN),
     "mover_rewrite": (c_uint32, _BYTES + _WRITTEN),
     "mover_run": (c_uint32, 2 * _BYTES),
+    "mover_report": (c_uint32, _BYTES + _U32S + _SHEET),
     "mover_to_amounts": (c_uint32, _FLOATS + _U64S),
     "mover_to_weights": (c_uint32, _U64S + _FLOATS),
     "mover_tree_new": (_Tree, [c_size_t] + _GIVEN_TREE),
@@ -355,12 +379,15 @@ def _library() -> CDLL:
 
 
 def _call(name: str, *arguments: Any) -> Any:
-    """What a call returns; each array goes as a pointer and a length."""
-    passed = []
+    """What a call returns; bytes and each array go as a pointer and a length."""
+    passed: List[Any] = []
     for argument in arguments:
-        passed.append(argument)
-        if isinstance(argument, Array):
-            passed.append(len(argument))
+        if isinstance(argument, bytes):  # they are read where they are
+            passed += cast(argument, POINTER(c_uint8)), len(argument)
+        elif isinstance(argument, Array):
+            passed += argument, len(argument)
+        else:
+            passed.append(argument)
     return getattr(_library(), name)(*passed)
 
 
@@ -514,6 +541,32 @@ class Patch:
     nu: List[int]
     root: int
     parents: Optional[List[int]]
+
+
+@dataclass(frozen=True)
+class Report:
+    """The sheet of a reel.
+
+    accepted  how many of its images are accepted
+    tally     how many images have which number, for the numbers from 0 to 23: tally[0]
+              are accepted, and tally[k] are refused by k
+    sum       the exact sum of the costs of the accepted images
+    greatest  the greatest of these costs; 0 if no image is accepted
+    first     the first accepted image that has it, counted from 0; if none is accepted,
+              the number of images
+    """
+
+    accepted: int
+    tally: List[int]
+    sum: int
+    greatest: int
+    first: int
+
+    @property
+    def refused(self) -> Dict[int, int]:
+        """How many images are refused, by each number that refuses any."""
+        numbers = range(1, len(self.tally))
+        return {k: self.tally[k] for k in numbers if self.tally[k] > 0}
 
 
 def _square(places: Any, n: int) -> List[List[int]]:
@@ -745,12 +798,17 @@ _WRITTEN_MAX = 2_661  # bytes of a written image of 64 vertices, 512 edges and a
 _RECORD_MAX = 16_717  # bytes of the answer for 64 vertices
 
 
-def _image(image: BytesLike) -> Any:
-    """A table of an image's bytes."""
-    view = memoryview(image)
+def _bytes(given: BytesLike, name: str) -> bytes:
+    """What a bytes-like object holds. Bytes stay where they are, since nothing can
+    change them while the library works; the rest is copied."""
+    if type(given) is bytes:
+        return given
+    view = memoryview(given)
     if view.itemsize != 1:
-        raise TypeError(f"image: items of {view.itemsize} bytes where one is wanted")
-    return (c_uint8 * view.nbytes).from_buffer_copy(view.tobytes())
+        raise TypeError(f"{name}: items of {view.itemsize} bytes where one is wanted")
+    if view.ndim == 0:  # a number of numpy's
+        raise TypeError(f"{name}: {given!r} is a single item and not bytes")
+    return view.tobytes()
 
 
 def _written(size: int, name: str, *arguments: Any) -> bytes:
@@ -768,7 +826,7 @@ def run(image: BytesLike) -> Answer:
     Refuses by 11, 12, 13 and then 1 to 10; without a tree it stops after 7. It never
     refuses by 4, since an image has two bytes for a length.
     """
-    given, record = _image(image), (c_uint8 * _RECORD_MAX)()
+    given, record = _bytes(image, "image"), (c_uint8 * _RECORD_MAX)()
     _check("mover_run", given, record)
     n = given[0]
     cost, moves, root = struct.unpack_from("<QIB", record)
@@ -794,7 +852,8 @@ def read(image: BytesLike) -> Patch:
     parents = (c_uint32 * MAX_VERTICES)()
     n, m, root, tree = c_size_t(), c_size_t(), c_size_t(), c_uint32()
     results = byref(n), byref(m), byref(root), byref(tree)
-    _check("mover_read", _image(image), a, b, lengths, mu, nu, parents, *results)
+    given = _bytes(image, "image")
+    _check("mover_read", given, a, b, lengths, mu, nu, parents, *results)
     vertices, edges = n.value, m.value
     return Patch(
         n=vertices,
@@ -856,5 +915,81 @@ def rewrite(image: BytesLike) -> bytes:
 
     The image's form alone is examined, as by `read`: refuses by 11, 12, 13, 1 and 2.
     """
-    given = _image(image)
+    given = _bytes(image, "image")
     return _written(len(given), "mover_rewrite", given)
+
+
+# ---- Calls on reels
+
+_TALLY_PLACES = 24  # for the numbers from 0 to 23
+
+
+def report(reel: BytesLike) -> Report:
+    """One sheet for the images of a reel, a bytes-like object: how many are accepted,
+    how many are refused by which number, and what the accepted ones cost. An image has
+    the number and the cost that `run` gives for it: the cost of its tree if it has one,
+    or else the best.
+
+    A reel is the number of its images in two bytes, then an offset and a length for
+    each, in four bytes each, and then the images, where these say; all numbers are
+    little-endian, and offsets count from the reel's first byte. The images are in the
+    order of their offsets. Anything may be between them and behind the last. An image
+    may be empty: it is refused by 11 as any other under 36 bytes is.
+
+    >>> cheap = write([(0, 1, 5)], mu=[1, 0], nu=[0, 1])
+    >>> dear = write([(0, 1, 5)], mu=[9, 0], nu=[0, 9])
+    >>> report(pack([b"", cheap, dear, dear])).first
+    2
+    >>> report(pack([b"", cheap[:-1]])).refused
+    {11: 1, 12: 1}
+
+    Refuses by 14 alone, if the reel ends before its count or directory does, or an
+    image starts inside the directory or before its forerunner's end, or ends past the
+    reel. Bytes are read where they are; of other objects a copy is made.
+    """
+    given, tally = _bytes(reel, "reel"), (c_uint32 * _TALLY_PLACES)()
+    accepted, first = c_uint32(), c_size_t()
+    total, greatest = c_uint64(), c_uint64()
+    results = byref(accepted), byref(total), byref(greatest), byref(first)
+    _check("mover_report", given, tally, *results)
+    return Report(
+        accepted=accepted.value,
+        tally=list(tally),
+        sum=total.value,
+        greatest=greatest.value,
+        first=first.value,
+    )
+
+
+def _directory(lengths: List[int]) -> bytes:
+    """What is before the images of a reel that stand back to back."""
+    numbers, offset = [], 2 + 8 * len(lengths)
+    for place, length in enumerate(lengths):
+        if max(offset, length) > _U32:
+            raise ValueError(
+                f"images[{place}]: {length} bytes from byte {offset} on, and a reel has"
+                " four bytes for each of these numbers"
+            )
+        numbers += offset, length
+        offset += length
+    return struct.pack(f"<H{len(numbers)}I", len(lengths), *numbers)
+
+
+def pack(images: Iterable[BytesLike]) -> bytes:
+    """The reel of images, bytes-like objects: its directory, and then the images in the
+    order given, back to back. They are not examined, and may be empty.
+
+    >>> pack([b"", b"an image"]).hex(" ", 2)
+    '0200 1200 0000 0000 0000 1200 0000 0800 0000 616e 2069 6d61 6765'
+
+    Raises `ValueError` if there are more than 65,535 images, or so many bytes that an
+    image's offset or length is above 4,294,967,295.
+    """
+    if isinstance(images, (Mapping, Set)):
+        raise TypeError(f"images: a {type(images).__name__} has no order of images")
+    items: List[bytes] = []
+    for place, image in enumerate(images):
+        if place == MAX_IMAGES:
+            raise ValueError(f"images: there are more than {MAX_IMAGES}")
+        items.append(_bytes(image, f"images[{place}]"))
+    return b"".join([_directory([len(item) for item in items]), *items])

@@ -8,3 +8,4 @@ pub mod Integer
 pub mod Mask
 pub mod Matrix
 pub mod Refusal
+pub mod Tests

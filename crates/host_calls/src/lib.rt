@@ -17,6 +17,7 @@ ghost use Rattle.image_rewriter.specs.Rewrite.{Rewritten};
 ghost use Rattle.weight_mover.specs.Run.{Ran};
 
 pub mod records;
+pub mod sequences;
 pub mod tree;
 
 // Fills the first n × n places of `out` with the distances, row i from place i × n.

@@ -1,5 +1,5 @@
 -- Document 01, "Image": its layout and checks 11 to 13. s is the image's bytes.
-use Prim.Native.Nat.{ℕ, _+_, _*_, _-_}
+use Prim.Native.Nat.{ℕ, _+_, _*_}
 use mathlib.Core.Bool.{Bool, not, _&&_, _||_}
 use mathlib.Core.List.{List}
 use lib.ListN.{length}
@@ -7,6 +7,7 @@ use lib.Dec.{eqb, leb}
 use Rattle.arithmetic.specs.Bools.{all}
 use Rattle.arithmetic.specs.Table.{at}
 use Rattle.little_endian.specs.LittleEndian.{two, four}
+use Rattle.directory.specs.Directory.{offsetIn, extentIn, pairOk}
 
 -- "byte 0 is n, byte 1 is 0, bytes 2–3 are m"
 abbrev pub vertexCount : List ℕ → ℕ
@@ -27,22 +28,18 @@ abbrev pub treeSection : List ℕ → ℕ
 treeSection s = 3
 
 abbrev pub offset : List ℕ → ℕ → ℕ
-offset s t = four s (4 + 8 * t)
+offset s t = offsetIn 4 s t
 
 abbrev pub extent : List ℕ → ℕ → ℕ
-extent s t = four s (8 + 8 * t)
-
-abbrev pub end : List ℕ → ℕ → ℕ
-end s t = offset s t + extent s t
+extent s t = extentIn 4 s t
 
 -- 11: "image under 36 or over 65,536 bytes"
 unfoldable pub sizeOk : List ℕ → Bool
 sizeOk s = leb (firstOffset s) (length s) && leb (length s) 65536
 
 -- 12: "a section starts before 36 or before its forerunner's end, or ends past the image"
-unfoldable pub sectionOk : List ℕ → ℕ → Bool
-sectionOk s t =
-    leb (firstOffset s) (offset s t) && ((eqb t 0 || leb (end s (t - 1)) (offset s t)) && leb (end s t) (length s))
+abbrev pub sectionOk : List ℕ → ℕ → Bool
+sectionOk s t = pairOk 4 (firstOffset s) s t
 
 abbrev pub sectionsOk : List ℕ → Bool
 sectionsOk s = all (sectionCount s) (sectionOk s)

@@ -1,17 +1,20 @@
 // The image format: the header's fields, and the checks of an image, 11, 12, 13, 1 and 2.
 ghost use mathlib.Core.Path.{_≡_};
-ghost use mathlib.Core.Bool.{_&&_, _||_};
-ghost use Prim.Native.Nat.{_-_, _≤_, _<_};
+ghost use mathlib.Core.Bool.{_&&_};
+ghost use Prim.Native.Nat.{_≤_, _<_};
 ghost use lib.ListN.{length};
-ghost use lib.Dec.{eqb, leb};
+ghost use lib.Dec.{leb};
 ghost use Rattle.arithmetic.specs.Refusal.{refusal};
 ghost use Rattle.graph.specs.Checks.{verticesOk};
-ghost use Rattle.image.specs.Image.{vertexCount, edgeCount, firstOffset, sectionCount, sizeOk, sectionOk, sectionsOk, layoutOk, offset as offsetOf, extent as extentOf, end as endOf};
+ghost use Rattle.image.specs.Image.{vertexCount, edgeCount, firstOffset, sectionCount, sizeOk, sectionsOk, layoutOk, offset as offsetOf, extent as extentOf};
 ghost use Rattle.image.specs.ImageChecks.{imageChecks, roomIn};
+use directory::pairs_ok;
 use graph::edges::vertices_fit;
 use little_endian::read::get;
-use little_endian::read::get_four;
 use little_endian::read::get_two;
+
+// Where the pairs of offset and length of the sections stand.
+const PAIRS: usize = 4;
 
 // How many sections an image has.
 const SECTIONS: usize = 4;
@@ -43,7 +46,7 @@ pub fn offset(image: &[u8], t: usize) -> usize
     requires { ⌜ (firstOffset (now image) ≤ length (now image)) × (t < sectionCount (now image)) ⌝ }
     ensures { λ r. ⌜ (r ≡ offsetOf (now (image .entry)) t) × (r < 4294967296) ⌝ }
 {
-    get_four(image, 4 + 8 * t) as usize
+    directory::offset(image, PAIRS, t)
 }
 
 // How many bytes section t has.
@@ -51,15 +54,7 @@ pub fn extent(image: &[u8], t: usize) -> usize
     requires { ⌜ (firstOffset (now image) ≤ length (now image)) × (t < sectionCount (now image)) ⌝ }
     ensures { λ r. ⌜ (r ≡ extentOf (now (image .entry)) t) × (r < 4294967296) ⌝ }
 {
-    get_four(image, 8 + 8 * t) as usize
-}
-
-// Where section t ends.
-fn end(image: &[u8], t: usize) -> usize
-    requires { ⌜ (firstOffset (now image) ≤ length (now image)) × (t < sectionCount (now image)) ⌝ }
-    ensures { λ r. ⌜ r ≡ endOf (now (image .entry)) t ⌝ }
-{
-    offset(image, t) + extent(image, t)
+    directory::extent(image, PAIRS, t)
 }
 
 // Check 11.
@@ -69,42 +64,12 @@ fn size_ok(image: &[u8]) -> bool
     FIRST_OFFSET <= image.len() && image.len() <= 65536
 }
 
-// Section t does not start before its forerunner's end.
-fn follows(image: &[u8], t: usize) -> bool
-    requires { ⌜ (firstOffset (now image) ≤ length (now image)) × (t < sectionCount (now image)) ⌝ }
-    ensures { λ r. ⌜ r ≡ eqb t 0 || leb (endOf (now (image .entry)) (t - 1)) (offsetOf (now (image .entry)) t) ⌝ }
-{
-    if t == 0 {
-        return true;
-    }
-    end(image, t - 1) <= offset(image, t)
-}
-
-// Check 12 of section t.
-fn section_ok(image: &[u8], t: usize) -> bool
-    requires { ⌜ (firstOffset (now image) ≤ length (now image)) × (t < sectionCount (now image)) ⌝ }
-    ensures { λ r. ⌜ r ≡ sectionOk (now (image .entry)) t ⌝ }
-{
-    if offset(image, t) < FIRST_OFFSET {
-        return false;
-    }
-    if !follows(image, t) {
-        return false;
-    }
-    end(image, t) <= image.len()
-}
-
 // Check 12.
 fn sections_ok(image: &[u8]) -> bool
     requires { ⌜ firstOffset (now image) ≤ length (now image) ⌝ }
     ensures { λ r. ⌜ r ≡ sectionsOk (now (image .entry)) ⌝ }
 {
-    for t in 0..SECTIONS {
-        if !section_ok(image, t) {
-            return false;
-        }
-    }
-    true
+    pairs_ok(image, PAIRS, FIRST_OFFSET, SECTIONS)
 }
 
 // Check 13.

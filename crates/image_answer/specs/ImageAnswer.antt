@@ -41,6 +41,10 @@ evaluatedPotential s = potential (graphOfImage s) (rootIn s) (parentIn s) (amoun
 abbrev pub imageBestCost : List ℕ → ℕ
 imageBestCost s = bestCost (graphOfImage s) (amount s 0) (amount s 1)
 
+-- the cost that an image is answered: that of its tree, or the best cost
+abbrev pub answerCost : List ℕ → ℕ
+answerCost s = cond (hasTree s) (evaluatedCost s) (imageBestCost s)
+
 -- demand 3 of a tree with root 0 and the parents p, its plan, a potential u and the best cost
 abbrev pub BestAnswer : List ℕ → (ℕ → ℕ) → (ℕ → ℤ) → Type 0
 BestAnswer s p u = Best (graphOfImage s) (amount s 0) (amount s 1) p (imagePlan s 0 p) u (imageBestCost s)

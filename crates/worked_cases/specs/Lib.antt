@@ -5,3 +5,4 @@ pub mod Marks
 pub mod Weights
 pub mod Images
 pub mod Queries
+pub mod Reports

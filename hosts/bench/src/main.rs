@@ -1,12 +1,14 @@
 //! Times the weight mover, LEMON's network simplex and the plain reference solver on the same images.
 //!
-//! Usage: `bench [queries] [PATCHES] [SEED]`; prints a markdown table, with `queries` that of [`queries`].
+//! Usage: `bench [queries | reports] [COUNT] [SEED]`; prints a markdown table, with `queries` or `reports` that of [`queries`] or
+//! [`reports`].
 //!
 //! Each solver starts from the image and builds its graph from it. The weight mover also checks the image
 //! and fills the whole record: tree, potential and the n × n plan. LEMON finds the flow on the arcs.
 
 mod pivots;
 mod queries;
+mod reports;
 
 use reference::checks::accept;
 use reference::flow::least_cost;
@@ -40,6 +42,21 @@ struct Class {
     vertices: usize,
     edges: fn(&mut Random) -> Vec<Edge>,
     measures: Measures,
+}
+
+impl Class {
+    fn draw(&self, random: &mut Random) -> Problem {
+        let n = self.vertices;
+        let edges = (self.edges)(random);
+        let (mu, nu) = measures(random, n, self.measures);
+        Problem {
+            n,
+            edges,
+            mu,
+            nu,
+            tree: None,
+        }
+    }
 }
 
 const CLASSES: [Class; 7] = [
@@ -118,7 +135,7 @@ fn pivots(problem: &Problem, record: &[u8]) -> f64 {
 }
 
 /// Microseconds of one call, and its result.
-fn timed(call: impl FnOnce() -> u64) -> (f64, u64) {
+fn timed<T>(call: impl FnOnce() -> T) -> (f64, T) {
     let start = Instant::now();
     let result = black_box(call());
     (start.elapsed().as_secs_f64() * 1e6, result)
@@ -152,17 +169,8 @@ fn table(patches: u64, seed: u64) {
         let random = &mut Random::new(seed);
         let results: Vec<([f64; 3], f64)> = (0..patches)
             .map(|_| {
-                let n = class.vertices;
-                let edges = (class.edges)(random);
-                let (mu, nu) = measures(random, n, class.measures);
-                let problem = Problem {
-                    n,
-                    edges,
-                    mu,
-                    nu,
-                    tree: None,
-                };
-                let mut record = vec![0; record_size(n)];
+                let problem = class.draw(random);
+                let mut record = vec![0; record_size(problem.n)];
                 let times = measure(&problem.image(), &mut record);
                 (times, pivots(&problem, &record))
             })
@@ -185,13 +193,12 @@ fn table(patches: u64, seed: u64) {
 
 fn main() {
     let mut arguments = std::env::args().skip(1).peekable();
-    let queries = arguments.next_if(|word| word == "queries").is_some();
+    let kind = arguments.next_if(|word| word == "queries" || word == "reports");
     let mut numbers = arguments.map(|a| a.parse::<u64>().expect("a number"));
-    let patches = numbers.next().unwrap_or(200);
-    let seed = numbers.next().unwrap_or(1);
-    if queries {
-        queries::table(patches, seed);
-    } else {
-        table(patches, seed);
+    let (count, seed) = (numbers.next(), numbers.next().unwrap_or(1));
+    match kind.as_deref() {
+        Some("queries") => queries::table(count.unwrap_or(200), seed),
+        Some(_) => reports::table(count.unwrap_or(10_000), seed),
+        None => table(count.unwrap_or(200), seed),
     }
 }

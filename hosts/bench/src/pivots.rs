@@ -36,7 +36,7 @@ fn shortest_path_tree(problem: &Problem) -> (Vec<usize>, Vec<usize>) {
             let e = if rising { i } else { problem.edges.len() - 1 - i };
             let Edge { a, b, length } = problem.edges[e];
             let (x, y) = if rising { (a, b) } else { (b, a) };
-            let near = labels[x] + 128 * u64::from(length) + 1;
+            let near = labels[x] + 128 * length + 1;
             if near < labels[y] {
                 (labels[y], parents[y], edge[y]) = (near, x, e);
                 lowered = true;

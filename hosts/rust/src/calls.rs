@@ -194,6 +194,16 @@ mod ffi {
             length: *mut usize,
         ) -> u32;
         pub fn mover_run(image: *const u8, image_len: usize, record: *mut u8, record_len: usize) -> u32;
+        pub fn mover_report(
+            reel: *const u8,
+            reel_len: usize,
+            tally: *mut u32,
+            tally_len: usize,
+            accepted: *mut u32,
+            sum: *mut u64,
+            greatest: *mut u64,
+            first: *mut usize,
+        ) -> u32;
         pub fn mover_tree_new(n: usize, root: usize, parents: *const u32, parents_len: usize) -> Tree;
         pub fn mover_tree_depth(tree: Tree, v: usize) -> u32;
         pub fn mover_tree_parent(tree: Tree, v: usize) -> u32;
@@ -741,6 +751,58 @@ pub fn mover_rewrite(image: &[u8], buffer: &mut [u8], length: &mut usize) -> u32
 /// ```
 pub fn mover_run(image: &[u8], record: &mut [u8]) -> u32 {
     unsafe { ffi::mover_run(image.as_ptr(), image.len(), record.as_mut_ptr(), record.len()) }
+}
+
+/// Reports on an image sequence: fills the first 24 places of `tally`, place k with how many images have the
+/// number k, and tells how many were `accepted`, which is place 0, the `sum` of their costs, the `greatest` cost
+/// and the `first` image that has it, counted from 0.
+///
+/// A reel is a count of two bytes, then for each image its offset and length, four bytes each, and then the images
+/// in this order; all is little-endian, and offsets count from the reel's first byte. There may be anything between
+/// the images and behind them, and the reel may have any size. An image's number is what [`mover_run`] returns for
+/// it with room enough for its record, and its cost is the one there: the tree's, or the best. If no image was
+/// accepted, `sum` and `greatest` are 0 and `first` is the count.
+///
+/// Refuses by 14, if the reel ends before its count or directory does, or an image starts inside the directory or
+/// before its forerunner's end, or ends past the reel; and then by 2, if `tally` has under 24 places.
+///
+/// ```
+/// use weight_mover::{calls::mover_report, pack, Patch};
+///
+/// let patch = Patch::new(2).edge(0, 1, 7).mu(&[3, 1]).nu(&[0, 4]);
+/// let image = patch.image().expect("small numbers");
+/// // Byte 1 of an image is 0.
+/// let mut damaged = image.clone();
+/// damaged[1] = 1;
+/// let reel = pack([&damaged, &image, &image]).expect("three small images");
+/// let (mut tally, mut accepted, mut sum, mut greatest, mut first) = ([9; 25], 9, 9, 9, 9);
+/// let number = mover_report(&reel, &mut tally, &mut accepted, &mut sum, &mut greatest, &mut first);
+/// assert_eq!((number, accepted, sum, greatest, first), (0, 2, 42, 21, 1));
+/// assert_eq!((tally[0], tally[13], tally[24]), (2, 1, 9));
+///
+/// let number = mover_report(&reel[1..], &mut [], &mut accepted, &mut sum, &mut greatest, &mut first);
+/// assert_eq!((number, accepted, sum, greatest, first), (14, 0, 0, 0, 0));
+/// ```
+pub fn mover_report(
+    reel: &[u8],
+    tally: &mut [u32],
+    accepted: &mut u32,
+    sum: &mut u64,
+    greatest: &mut u64,
+    first: &mut usize,
+) -> u32 {
+    unsafe {
+        ffi::mover_report(
+            reel.as_ptr(),
+            reel.len(),
+            tally.as_mut_ptr(),
+            tally.len(),
+            accepted,
+            sum,
+            greatest,
+            first,
+        )
+    }
 }
 
 /// The tree with a root and a list of parents, of which nothing is examined: the first n places are taken

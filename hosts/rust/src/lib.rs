@@ -42,13 +42,16 @@
 //! | `mover_write_image` | [`Patch::image`] | |
 //! | `mover_rewrite` | [`rewrite`] | [`rewrite_into`] |
 //! | `mover_run` | [`run`] | [`run_into`] |
+//! | `mover_report` | [`report`](report()), [`report_by_parts`] | |
 //! | `mover_tree_new` | [`Tree::new`] | |
 //! | `mover_tree_depth`, `_parent`, `_subtree` | [`Tree::depth`], [`parent`](Tree::parent), [`subtree`](Tree::subtree) | |
 //!
 //! [`calls`] has them under their own names, on slices. A [`Patch`] is a graph with its measures and perhaps
 //! a tree: what an image holds, and a [`text`]. [`to_amounts`] makes a measure of weights as paint tools hold
 //! them, 32-bit floats from 0 to 1. Brushes ask a graph which vertices are within a reach, and which one with
-//! paint is nearest. The library keeps nothing between calls and may be used from several threads at once.
+//! paint is nearest. [`pack`] puts images together, and [`report`](report()) says of such a sequence how many are
+//! accepted or refused, and what they cost. The library keeps nothing between calls and may be used from several
+//! threads at once.
 
 #![warn(missing_docs)]
 
@@ -58,6 +61,7 @@ mod graph;
 mod lend;
 mod patch;
 mod refusal;
+mod report;
 pub mod text;
 mod tree;
 mod weights;
@@ -67,6 +71,7 @@ pub use calls::mover_run;
 pub use graph::{distances_of_records, distances_of_records_into, Distances, Edge, Graph};
 pub use patch::{read, read_into, rewrite, rewrite_into, Patch};
 pub use refusal::Refusal;
+pub use report::{pack, report, report_by_parts, PackError, Report};
 pub use tree::{mark_ancestors, Tree};
 pub use weights::{to_amounts, to_amounts_into, to_weights, to_weights_into};
 

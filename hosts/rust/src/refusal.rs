@@ -4,7 +4,8 @@ use std::fmt;
 ///
 /// The checks run in the order 11, 12, 13 and then 1 to 10; the first that fails gives the number. Where an image
 /// is written they are 1, 2 and 13, in this order, and where weights become amounts, and back, 2, 15 and 16.
-/// Calls from a start vertex end with 17, after 5 or, where there is a measure, after 6.
+/// Calls from a start vertex end with 17, after 5 or, where there is a measure, after 6. An image sequence is
+/// refused by 14, or by 2 after that; its images have numbers of their own.
 #[derive(Clone, Copy, Debug, PartialEq, Eq, Hash)]
 #[non_exhaustive]
 pub enum Refusal {
@@ -36,6 +37,9 @@ pub enum Refusal {
     /// 13: byte 1 of the image is not 0, or a section's length does not fit the counts. Of what is to be written
     /// as an image: an end, root or parent is above 255, a length above 65,535 or an amount above 4,294,967,295.
     SectionLength,
+    /// 14: the reel ends before its count or directory does, or an image in it starts inside the directory or before
+    /// its forerunner's end, or ends past the reel.
+    SequenceDirectory,
     /// 15: a weight is below 0, above 1 or no number, or an amount that is to be a weight is above 16,777,216.
     WeightRange,
     /// 16: a weight is no whole number of grains: 16,777,216 times it is not whole.
@@ -64,6 +68,7 @@ impl Refusal {
             11 => Refusal::ImageSize,
             12 => Refusal::SectionPlace,
             13 => Refusal::SectionLength,
+            14 => Refusal::SequenceDirectory,
             15 => Refusal::WeightRange,
             16 => Refusal::WeightGrains,
             17 => Refusal::StartVertex,
@@ -99,17 +104,24 @@ impl Refusal {
             Refusal::ImageSize => 11,
             Refusal::SectionPlace => 12,
             Refusal::SectionLength => 13,
+            Refusal::SequenceDirectory => 14,
             Refusal::WeightRange => 15,
             Refusal::WeightGrains => 16,
             Refusal::StartVertex => 17,
             Refusal::Other(number) => number,
         }
     }
-}
 
-impl fmt::Display for Refusal {
-    fn fmt(&self, f: &mut fmt::Formatter) -> fmt::Result {
-        let meaning = match self {
+    /// What it means, in words; its text is `refused`, the number and these.
+    ///
+    /// ```
+    /// use weight_mover::Refusal;
+    ///
+    /// assert_eq!(Refusal::TotalsDiffer.meaning(), "the two totals differ");
+    /// assert_eq!(Refusal::TotalsDiffer.to_string(), "refused 7: the two totals differ");
+    /// ```
+    pub fn meaning(self) -> &'static str {
+        match self {
             Refusal::VertexCount => "the number of vertices is 0 or above 64",
             Refusal::TableSize => "more than 512 edges, or a table or buffer of the wrong length",
             Refusal::EdgeOrder => "an edge's ends are wrong, or an edge comes twice or out of order",
@@ -126,14 +138,22 @@ impl fmt::Display for Refusal {
                 "byte 1 of the image is not 0, a section has the wrong length, or a number is too large for \
                  an image"
             }
+            Refusal::SequenceDirectory => {
+                "the reel is shorter than its directory, or an image in it is out of order or out of bounds"
+            }
             Refusal::WeightRange => {
                 "a weight is below 0, above 1 or no number, or an amount is above 16,777,216"
             }
             Refusal::WeightGrains => "a weight is no whole number of grains",
             Refusal::StartVertex => "the start is no vertex",
             Refusal::Other(_) => "for a reason unknown to this crate",
-        };
-        write!(f, "refused {}: {meaning}", self.number())
+        }
+    }
+}
+
+impl fmt::Display for Refusal {
+    fn fmt(&self, f: &mut fmt::Formatter) -> fmt::Result {
+        write!(f, "refused {}: {}", self.number(), self.meaning())
     }
 }
 
@@ -151,13 +171,16 @@ mod tests {
             let refusal = Refusal::from_number(number).expect("a refusal");
             assert_eq!(refusal.number(), number);
             assert_eq!(Refusal::check(number), Err(refusal));
-            let known = (1..=13).contains(&number) || (15..=17).contains(&number);
-            assert_eq!(matches!(refusal, Refusal::Other(_)), !known);
+            assert_eq!(matches!(refusal, Refusal::Other(_)), number > 17);
             assert!(refusal.to_string().starts_with(&format!("refused {number}: ")));
         }
         assert_eq!(
             Refusal::SectionLength.to_string(),
             "refused 13: byte 1 of the image is not 0, a section has the wrong length, or a number is too large for an image"
+        );
+        assert_eq!(
+            Refusal::SequenceDirectory.to_string(),
+            "refused 14: the reel is shorter than its directory, or an image in it is out of order or out of bounds"
         );
         assert_eq!(
             Refusal::StartVertex.to_string(),

@@ -1,4 +1,4 @@
-//! The safe wrappers: the same answers as the calls, buffers that are reused, numbers that do not wrap, flow.
+//! The safe wrappers: the same answers as the calls, buffers that are reused, numbers that do not wrap, flow, reports.
 //!
 //! `MOVER_CASES` and `MOVER_SEED` are as in the differential tests.
 
@@ -8,18 +8,20 @@ use reference::random_queries::{faulty_query, sound_query, Query, UNASKABLE};
 use reference::random_writer::{accepted, refused, Given, UNWRITABLE};
 use reference::record::Record;
 use reference::runs::{cases, seed};
+use reference::sequences::{misplace, of_size, pool, some_of, transport, MISPLACED};
 use reference::weights::weight;
 use reference::writer::{rewrite as anew, write};
 use reference::Lists;
 use std::fmt::Debug;
 use weight_mover::calls::{
     mover_distances, mover_distances_of_records, mover_evaluate, mover_is_optimal, mover_mark_ancestors,
-    mover_nearest_vertex, mover_solve, mover_to_amounts, mover_to_weights, mover_vertices_within,
+    mover_nearest_vertex, mover_report, mover_solve, mover_to_amounts, mover_to_weights,
+    mover_vertices_within,
 };
 use weight_mover::{
-    distances_of_records, distances_of_records_into, image_size, mark_ancestors, read, read_into, rewrite,
-    rewrite_into, run, run_into, to_amounts, to_amounts_into, to_weights, to_weights_into, Answer, Distances,
-    Edge, Evaluation, Graph, Patch, Refusal, Tree,
+    distances_of_records, distances_of_records_into, image_size, mark_ancestors, pack, read, read_into,
+    report, report_by_parts, rewrite, rewrite_into, run, run_into, to_amounts, to_amounts_into, to_weights,
+    to_weights_into, Answer, Distances, Edge, Evaluation, Graph, Patch, Refusal, Report, Tree,
 };
 
 /// The graph of some lists, its edges added in any order and their ends either way.
@@ -823,4 +825,139 @@ fn weights_and_amounts() {
         count < 500 || [0, 2, 15, 16].iter().all(|&k| seen[k] > 0),
         "{seen:?}"
     );
+}
+
+/// What the call tells of a reel, into a tally that is longer.
+fn told(reel: &[u8]) -> Result<Report, Refusal> {
+    let (mut tally, mut accepted, mut sum, mut greatest, mut first) = ([9; 30], 9, 9, 9, 9);
+    let number = mover_report(
+        reel,
+        &mut tally,
+        &mut accepted,
+        &mut sum,
+        &mut greatest,
+        &mut first,
+    );
+    Refusal::check(number)?;
+    Ok(Report {
+        accepted,
+        tally: tally[..24].try_into().expect("24 places"),
+        sum,
+        greatest,
+        first,
+    })
+}
+
+/// Tests a report against its images, run one by one.
+fn agree_on_a_report(report: &Report, images: &[Vec<u8>]) -> Result<(), String> {
+    let results: Vec<_> = images.iter().map(|image| run(image)).collect();
+    same("count", &(report.count() as usize), &images.len())?;
+    let costs = || results.iter().flatten().map(|answer| answer.cost);
+    same("accepted", &(report.accepted as usize), &costs().count())?;
+    same("sum", &report.sum, &costs().sum())?;
+    same("greatest", &report.greatest, &costs().max().unwrap_or(0))?;
+    let with_greatest = |r: &Result<Answer, Refusal>| r.as_ref().is_ok_and(|a| a.cost == report.greatest);
+    let first = results.iter().position(with_greatest);
+    same("first", &report.first, &first.unwrap_or(images.len()))?;
+    let refused: Vec<Refusal> = results.iter().filter_map(|r| r.as_ref().err().copied()).collect();
+    same("refused", &(report.refused() as usize), &refused.len())?;
+    let with = |refusal: Refusal| refused.iter().filter(|&&r| r == refusal).count() as u32;
+    let all = (1..24).filter_map(Refusal::from_number);
+    let expected: Vec<_> = all
+        .map(|r| (r, with(r)))
+        .filter(|&(_, images)| images > 0)
+        .collect();
+    same("refusals", &report.refusals().collect(), &expected)
+}
+
+/// A report is the call's, at once and by parts, and what its images give one by one.
+#[test]
+fn reports() {
+    let (seed, count) = (seed(), cases(600));
+    let random = &mut Random::new(seed);
+    let pool = pool(random, 100);
+    let (mut seen, mut refused) = ([0; 24], 0);
+    for index in 0..count {
+        let random = &mut Random::for_case(seed, index);
+        let sequence = some_of(random, &pool, 15);
+        let images: Vec<Vec<u8>> = sequence.images.iter().map(|(_, image)| image.clone()).collect();
+        let mut reel = sequence.reel();
+        let got = report(&reel).expect("in order");
+        assert_eq!(told(&reel).as_ref(), Ok(&got), "seed {seed}, case {index}");
+        let result = agree_on_a_report(&got, &images);
+        result.unwrap_or_else(|complaint| panic!("seed {seed}, case {index}: {complaint}"));
+        let packed = pack(&images).expect("few images");
+        assert_eq!(report(&packed).as_ref(), Ok(&got), "seed {seed}, case {index}");
+        let mut said = Vec::new();
+        let parts = report_by_parts(&reel, &mut |done, count| said.push((done, count)));
+        assert_eq!(parts.as_ref(), Ok(&got), "seed {seed}, case {index}");
+        let at_once = (images.len(), images.len());
+        assert_eq!(said, if images.is_empty() { vec![] } else { vec![at_once] });
+        (0..24).for_each(|k| seen[k] += got.tally[k]);
+
+        if misplace(random, &mut reel, MISPLACED[index as usize % MISPLACED.len()]) {
+            let refusal = Err(Refusal::SequenceDirectory);
+            let by_parts = report_by_parts(&reel, &mut |_, _| panic!("a part of a refused reel"));
+            assert_eq!(
+                [told(&reel), report(&reel), by_parts],
+                [refusal.clone(), refusal.clone(), refusal]
+            );
+            refused += 1;
+        }
+    }
+    println!("reports: seed {seed}, {count} cases, {refused} refused, numbers {seen:?}");
+    let own = (0..24).all(|k| (seen[k] > 0) == (k < 14 && k != 4));
+    assert!(count < 500 || own && refused > 300, "{seen:?}, {refused}");
+}
+
+type SpoilReport = fn(&mut Report);
+
+/// The test above can fail: whatever is spoiled is missed.
+#[test]
+fn wrong_reports_are_caught() {
+    let images = [of_size(100), vec![], transport(9, 10).image()];
+    let right = report(&pack(&images).expect("few images")).expect("in order");
+    assert_eq!(agree_on_a_report(&right, &images), Ok(()));
+    let spoils: [(&str, SpoilReport); 7] = [
+        ("count", |r| r.tally[23] += 1),
+        ("accepted", |r| r.accepted += 1),
+        ("sum", |r| r.sum += 1),
+        ("greatest", |r| r.greatest += 1),
+        ("first", |r| r.first = 0),
+        ("refused", |r| (r.tally[0], r.tally[11]) = (3, 0)),
+        ("refusals", |r| (r.tally[12], r.tally[11]) = (1, 0)),
+    ];
+    for (name, spoil) in spoils {
+        let mut report = right.clone();
+        spoil(&mut report);
+        let complaint = agree_on_a_report(&report, &images).expect_err(name);
+        assert!(complaint.starts_with(&format!("{name}: ")), "{name}: {complaint}");
+    }
+}
+
+/// Parts end after 4,096 images and after 64 MiB; what is longer is a part by itself.
+#[test]
+fn parts_of_a_sequence() {
+    let steps = |reel: &[u8]| {
+        let mut said = Vec::new();
+        let parts = report_by_parts(reel, &mut |done, _| said.push(done));
+        assert_eq!(parts, report(reel));
+        said
+    };
+    let image = transport(2, 2).image();
+    let few = pack(vec![&image; 9_000]).expect("small images");
+    assert_eq!(steps(&few), [4_096, 8_192, 9_000]);
+    // 1,024 of these have 64 MiB; if the first has a byte more, there is room for one less.
+    let large = of_size(65_536);
+    assert_eq!(
+        steps(&pack(vec![&large; 1_030]).expect("1,030 images")),
+        [1_024, 1_030]
+    );
+    let larger = [&large[..], &[7]].concat();
+    let mut images = vec![&larger];
+    images.resize(1_030, &large);
+    assert_eq!(steps(&pack(images).expect("1,030 images")), [1_023, 1_030]);
+    let longest = vec![7; (64 << 20) + 1];
+    let images = [&image, &image, &longest, &image];
+    assert_eq!(steps(&pack(images).expect("4 images")), [2, 3, 4]);
 }

@@ -1,5 +1,5 @@
 -- Document 01, "What is refused": numbered checks, and the number that a call returns.
-use Prim.Native.Nat.{ℕ}
+use Prim.Native.Nat.{ℕ, _<_}
 use mathlib.Core.Path.{_≡_, refl, sym, _∙_}
 use mathlib.Core.Bool.{Bool, true, false, cond, _&&_, _||_, not, and-false}
 use mathlib.Core.List.{List, [], _∷_, _++_}
@@ -133,3 +133,19 @@ both-pass (c ∷ cs) ds n h =
     case (c .test)
     (λ t. rw t (both-pass cs ds (and-r (ltb 0 (c .number)) _ n) (rw t at h)))
     (λ f. absurd (omega (arith, ltb-true 0 (c .number) (and-l (ltb 0 (c .number)) _ n), rw f at h)))
+
+-- ---- how large a number is
+
+-- every check of a list has a number below k
+unfoldable pub numbersBelow : ℕ → List Check → Bool
+numbersBelow k [] = true
+numbersBelow k (c ∷ cs) = ltb (c .number) k && numbersBelow k cs
+
+-- so has what the list refuses by, if what comes after it has
+pub below-after : (k : ℕ) (cs ds : List Check) → numbersBelow k cs ≡ true → refusal ds < k → refusal (cs ++ ds) < k
+unfolding refusal numbersBelow
+below-after k [] ds n h = h
+below-after k (c ∷ cs) ds n h =
+    case (c .test)
+    (λ t. rw t (below-after k cs ds (and-r (ltb (c .number) k) _ n) h))
+    (λ f. rw f (ltb-true (c .number) k (and-l (ltb (c .number) k) _ n)))

@@ -30,6 +30,14 @@ pub sum-step : (n : ℕ) (f : ℕ → ℕ) → sum (n + 1) f ≡ sum n f + f n
 unfolding sum
 sum-step n f = rw add-one
 
+-- the first term apart
+pub sum-shift : (n : ℕ) (f : ℕ → ℕ) → sum (n + 1) f ≡ f 0 + sum n (λ i. f (1 + i))
+unfolding sum
+sum-shift zero f = omega arith
+sum-shift (suc n) f =
+    let e : suc n ≡ 1 + n = omega arith in
+    omega (arith, sum-step (suc n) f, ap (λ (x : ℕ). sum x f) (sym (add-one n)), sum-shift n f, ap f e)
+
 pub sum-ext : (n : ℕ) (f g : ℕ → ℕ) → ((i : ℕ) → i < n → f i ≡ g i) → sum n f ≡ sum n g
 unfolding sum
 sum-ext zero f g h = refl

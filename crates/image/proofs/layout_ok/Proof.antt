@@ -2,7 +2,8 @@
 use mathlib.Core.Path.{sym}
 use native.Mathlib.Omega.{arith}
 use Rattle.image.specs.Image.{layoutOk}
-use Rattle.image.proofs.Laws.Tests.{tests}
+use Rattle.arithmetic.proofs.Laws.Tests.{tests}
+use Rattle.image.proofs.Laws.Tests.{image-tests}
 use Rattle.image.proofs.layout_ok.Statement.{statement}
 use Rattle.image.proofs.layout_ok.Tie as tie
 
@@ -13,18 +14,18 @@ layout-ok-spec =
     (tie.spec
     (λ c κs. omega arith)
     (λ c κs. omega arith)
-    (λ c. sym (search tests depth 9))
+    (λ c. sym (search (tests, image-tests) depth 9))
     (λ c κs. omega arith)
     (λ c κs. omega arith)
     (λ c. omega arith)
-    (λ c. sym (search tests depth 9))
+    (λ c. sym (search (tests, image-tests) depth 9))
     (λ c κs. omega arith)
     (λ c. omega arith)
-    (λ c. sym (search tests depth 9))
+    (λ c. sym (search (tests, image-tests) depth 9))
     (λ c κs. omega arith)
     (λ c. omega arith)
-    (λ c. sym (search tests depth 9))
+    (λ c. sym (search (tests, image-tests) depth 9))
     (λ c κs. omega arith)
-    (λ c. sym (search tests depth 9))
+    (λ c. sym (search (tests, image-tests) depth 9))
     (λ c. omega arith)
-    (λ c. sym (search tests depth 9)))
+    (λ c. sym (search (tests, image-tests) depth 9)))

@@ -4,7 +4,8 @@ use mathlib.Core.Path.{sym}
 use native.Mathlib.Omega.{arith}
 use borrow.Author.Tests.{le-leb, lt-leb}
 use Rattle.image.specs.Image.{edgeCount}
-use Rattle.image.proofs.Laws.Tests.{tests}
+use Rattle.arithmetic.proofs.Laws.Tests.{tests}
+use Rattle.image.proofs.Laws.Tests.{image-tests}
 use Rattle.image.proofs.tables_ok.Statement.{statement}
 use Rattle.image.proofs.tables_ok.Tie as tie
 
@@ -15,10 +16,10 @@ returns : tie.Need-returns
 returns c = let m = edges search in rw (lt-leb m 512 (omega arith))
 
 returns-2 : tie.Need-returns-2
-returns-2 c = let m = edges search in rw (le-leb m 512 (omega arith)) (sym (search tests))
+returns-2 c = let m = edges search in rw (le-leb m 512 (omega arith)) (sym (search (tests, image-tests)))
 
 returns-3 : tie.Need-returns-3
-returns-3 c = let m = edges search in rw (le-leb m 512 (omega arith)) (sym (search tests))
+returns-3 c = let m = edges search in rw (le-leb m 512 (omega arith)) (sym (search (tests, image-tests)))
 
 pub tables-ok-spec : {M : Type 1} → statement M
 tables-ok-spec =

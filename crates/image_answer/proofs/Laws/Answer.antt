@@ -29,8 +29,8 @@ use Rattle.host_record.specs.Record.{recordSize}
 use Rattle.image.specs.Contents.{graphOfImage}
 use Rattle.image_reader.specs.Read.{Lists, Read}
 use Rattle.image_reader.proofs.Laws.Tables.{Wide, formed, few, of-vertices, graph-read, amounts-read}
-use Rattle.image_answer.specs.ImageAnswer.{answerRefusal, imagePlan, evaluatedPotential, imageBestCost, BestAnswer}
-use Rattle.image_answer.specs.Steps.Answered.{answerCost, answerRoot, answerParent, answerPotential, answerPlan, success, told, Answered, Spacious}
+use Rattle.image_answer.specs.ImageAnswer.{answerRefusal, answerCost, imagePlan, evaluatedPotential, imageBestCost, BestAnswer}
+use Rattle.image_answer.specs.Steps.Answered.{answerRoot, answerParent, answerPotential, answerPlan, success, told, Answered, Spacious}
 use Rattle.image_answer.proofs.Laws.Passed.{Passed, passed}
 use Rattle.image_answer.proofs.Laws.Told.{told-same, told-number, told-success, written-same, success-same, tell-refused}
 use Rattle.image_answer.proofs.Laws.AnswerCheck.{read-refused, short-refused, mus, nus, before, after, up, evaluated-number, solved-number}

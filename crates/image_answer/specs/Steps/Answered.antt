@@ -10,13 +10,10 @@ use Rattle.arithmetic.specs.Table.{tab, matrix, written}
 use Rattle.spanning_tree.specs.TreeValue.{parentsHeld}
 use Rattle.plan_rule.specs.Plan.{moves}
 use Rattle.image.specs.Image.{hasTree, vertexCount, rootIn, parentIn}
-use Rattle.image_answer.specs.ImageAnswer.{answerRefusal, imagePlan, evaluatedCost, evaluatedPotential, imageBestCost, BestAnswer}
+use Rattle.image_answer.specs.ImageAnswer.{answerRefusal, answerCost, imagePlan, evaluatedPotential, BestAnswer}
 
--- "An image with a tree is weighed, one without gets the best answer": the cost, the root and the parents of its tree, the potential and
--- the plan; p and u are the parents and the potential of the best answer
-abbrev pub answerCost : List ℕ → ℕ
-answerCost s = cond (hasTree s) (evaluatedCost s) (imageBestCost s)
-
+-- "An image with a tree is weighed, one without gets the best answer": the root and the parents of its tree, the potential and the plan; p and
+-- u are the parents and the potential of the best answer
 abbrev pub answerRoot : List ℕ → ℕ
 answerRoot s = pick (hasTree s) (rootIn s)
 

@@ -8,15 +8,16 @@ use lib.ListN.{length}
 use lib.Dec.{eqb}
 use borrow.Author.Tests.{leb-true, eqb-true, ne-eqb}
 use Rattle.arithmetic.proofs.Laws.Bools.{all-at, and-l, and-r, or-right}
-use Rattle.image.specs.Image.{vertexCount, edgeCount, sectionCount, treeSection, extent, end, sectionOk, sectionsOk, layoutOk}
+use Rattle.directory.specs.Directory.{endIn, pairOk}
+use Rattle.image.specs.Image.{vertexCount, edgeCount, sectionCount, treeSection, extent, sectionOk, sectionsOk, layoutOk}
 use Rattle.image.proofs.Laws.ImageCheck.{WellFormed, well-formed, sized}
 use Rattle.image_reader.specs.Read.{Lists, roomOk, readRefusal, Read}
 use Rattle.image_reader.specs.Steps.Held.{Held}
 
 module _ (s : List ℕ) where
   -- a section ends within the image
-  section-end : sectionsOk s ≡ true → (t : ℕ) → t < sectionCount s → end s t ≤ length s
-  unfolding sectionOk
+  section-end : sectionsOk s ≡ true → (t : ℕ) → t < sectionCount s → endIn 4 s t ≤ length s
+  unfolding pairOk
   section-end h t l = let z = all-at (sectionCount s) (sectionOk s) h t l in search (leb-true, and-r)
 
   -- each section is there whole

@@ -14,7 +14,8 @@ use Rattle.arithmetic.proofs.Laws.Table.{length-tab, tab-at}
 use Rattle.arithmetic.proofs.Laws.Refusal.{right-failed}
 use Rattle.little_endian.specs.LittleEndian.{two, four}
 use Rattle.graph.specs.Checks.{listsOk}
-use Rattle.image.specs.Image.{vertexCount, edgeCount, offset, extent, end, sectionOk, layoutOk, hasTree, lowerEnd, upperEnd, edgeLengthOf, amount, rootIn, parentIn}
+use Rattle.directory.specs.Directory.{endIn, pairOk}
+use Rattle.image.specs.Image.{vertexCount, edgeCount, offset, extent, sectionOk, layoutOk, hasTree, lowerEnd, upperEnd, edgeLengthOf, amount, rootIn, parentIn}
 use Rattle.image.specs.Contents.{graphOfImage, contentsOf}
 use Rattle.image.proofs.Laws.ImageCheck.{WellFormed, lists-read}
 use Rattle.image_sections.specs.Held.{atMost}
@@ -81,7 +82,7 @@ module _ {s : List ℕ} (a : WellFormed s) where
 
   -- "the result is never longer than the image"
   pub never-longer : length (rewritten s) ≤ length s
-  unfolding sectionOk layoutOk
+  unfolding pairOk layoutOk
   never-longer =
       let h = a .layout in
       let o0 = in-order 0 (omega arith) in
@@ -89,10 +90,10 @@ module _ {s : List ℕ} (a : WellFormed s) where
       let o2 = in-order 2 (omega arith) in
       let o3 = in-order 3 (omega arith) in
       let first : 36 ≤ offset s 0 = leb-true 36 (offset s 0) (and-l _ _ o0) in
-      let second : end s 0 ≤ offset s 1 = search (leb-true, and-l, and-r) in
-      let third : end s 1 ≤ offset s 2 = search (leb-true, and-l, and-r) in
-      let fourth : end s 2 ≤ offset s 3 = search (leb-true, and-l, and-r) in
-      let last : end s 3 ≤ length s = search (leb-true, and-r) in
+      let second : endIn 4 s 0 ≤ offset s 1 = search (leb-true, and-l, and-r) in
+      let third : endIn 4 s 1 ≤ offset s 2 = search (leb-true, and-l, and-r) in
+      let fourth : endIn 4 s 2 ≤ offset s 3 = search (leb-true, and-l, and-r) in
+      let last : endIn 4 s 3 ≤ length s = search (leb-true, and-r) in
       let e0 : extent s 0 ≡ 4 * m = search (eqb-true, and-l, and-r) in
       let e1 : extent s 1 ≡ 4 * n = search (eqb-true, and-l, and-r) in
       let e2 : extent s 2 ≡ 4 * n = search (eqb-true, and-l, and-r) in

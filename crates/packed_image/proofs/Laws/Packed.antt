@@ -17,7 +17,8 @@ use Rattle.arithmetic.proofs.Laws.Appended.{length-appended, appended-ext}
 use Rattle.little_endian.specs.LittleEndian.{byteOf}
 use Rattle.little_endian.proofs.Laws.Byte.{length-pieces}
 use Rattle.little_endian.proofs.Laws.Holds.{Holds, holds-self, holds-at, holds-left, holds-right, holds-appended, holds-piece, one-held, two-held, four-held}
-use Rattle.image.specs.Image.{vertexCount, edgeCount, firstOffset, offset, extent, end, sectionOk}
+use Rattle.directory.specs.Directory.{endIn, pairOk}
+use Rattle.image.specs.Image.{vertexCount, edgeCount, firstOffset, offset, extent, sectionOk}
 use Rattle.packed_image.specs.Packed.{start, pair, header, packed}
 
 pub length-pair : (c : ℕ) (long : ℕ → ℕ) (t : ℕ) → length (pair c long t) ≡ 8
@@ -103,24 +104,24 @@ module _ (n form m c : ℕ) (f : ℕ → List ℕ) where
         (holds-at (omega (arith, length-tab 4 (byteOf (start c long t)))) (holds-right (tab 4 (byteOf (start c long t))) _ (pair-held t l)))
         (omega (arith, ends-by, sum-step t long, fits))
 
-    pub end-held : end image t ≡ start c long (t + 1)
+    pub end-held : endIn 4 image t ≡ start c long (t + 1)
     end-held = omega (arith, offset-held, extent-held, sum-step t long)
 
-    pub end-within : end image t ≤ length image
+    pub end-within : endIn 4 image t ≤ length image
     end-within = omega (arith, end-held, ends-by, length-packed)
 
   module _ (fits : start c long c < 4294967296) where
-    follows : (t : ℕ) → t < c → eqb t 0 || leb (end image (t - 1)) (offset image t) ≡ true
+    follows : (t : ℕ) → t < c → eqb t 0 || leb (endIn 4 image (t - 1)) (offset image t) ≡ true
     follows zero l = refl
     follows (suc t) l =
         let e = end-held fits t (omega arith) in
         let o = offset-held fits (suc t) l in
         let z : suc t - 1 ≡ t = omega arith in
-        rw z (or-true-r (eqb (suc t) 0) _ (le-leb (end image t) (offset image (suc t)) (omega (arith, e, o, ap (λ (x : ℕ). sum x long) (add-one t)))))
+        rw z (or-true-r (eqb (suc t) 0) _ (le-leb (endIn 4 image t) (offset image (suc t)) (omega (arith, e, o, ap (λ (x : ℕ). sum x long) (add-one t)))))
 
     -- check 12
     pub sections-packed : (t : ℕ) → t < c → firstOffset image ≤ 4 + 8 * c → sectionOk image t ≡ true
-    unfolding sectionOk
+    unfolding pairOk
     sections-packed t l h =
         and-true _ _ (le-leb (firstOffset image) (offset image t) (omega (arith, offset-held fits t l)))
-        (and-true _ _ (follows t l) (le-leb (end image t) (length image) (end-within fits t l)))
+        (and-true _ _ (follows t l) (le-leb (endIn 4 image t) (length image) (end-within fits t l)))

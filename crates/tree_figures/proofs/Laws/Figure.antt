@@ -2,13 +2,14 @@
 -- it rises by above a vertex less what it falls by. So they follow from tables.
 use Prim.Native.Nat.{ℕ, zero, suc, _+_, _*_, _^_, _≤_, _<_}
 use mathlib.Core.Path.{_≡_, refl, sym, ap, _∙_}
-use mathlib.Core.Bool.{Bool, true, false, not, _&&_}
+use mathlib.Core.Bool.{Bool, true, false, not, cond, _&&_}
 use mathlib.Core.List.{List}
 use native.Mathlib.Nat.{mul-le-mul, mul-le-mul-right}
 use native.Mathlib.Omega.{arith}
 use lib.Dec.{eqb}
 use lib.ListN.{length}
 use lib.Signed.{mag}
+use borrow.Author.Tests.{ne-eqb}
 use lib.IntN.{ℤ, pos, negsuc, natAbs, subℕ, _*ℤ_}
 use Rattle.arithmetic.specs.Sum.{pick, sum}
 use Rattle.arithmetic.specs.Table.{at, tab}
@@ -17,7 +18,7 @@ use Rattle.arithmetic.specs.Steps.Fill.{Filled}
 use Rattle.arithmetic.specs.Integer.{pickℤ}
 use Rattle.arithmetic.specs.Steps.Product.{gap}
 use Rattle.arithmetic.proofs.Laws.Bools.{case≡, eqb-self}
-use Rattle.arithmetic.proofs.Laws.Sum.{pick-zero, pick-le, sum-nil, sum-step, sum-ext, sum-le-mul}
+use Rattle.arithmetic.proofs.Laws.Sum.{pick-zero, pick-le, sum-nil, sum-step, sum-ext, sum-le-mul, sum-change}
 use Rattle.arithmetic.proofs.Laws.Table.{tab-ext}
 use Rattle.arithmetic.proofs.Laws.Integer.{sub-cong, abs-sub, mag-sub-lt, sumℤ-ext, sumℤ-sub, pickℤ-sub, sub-zero, zero-sub}
 use Rattle.rooted_tree.specs.Chain.{below}
@@ -167,3 +168,28 @@ module _ {n r : ℕ} {l : ℕ → ℕ} (few : n ≤ 64) (short : Short n r l) wh
           mul-le-mul-right (2 ^ 47) h,
           mul-le-mul-right (2 ^ 47) few,
         )
+
+-- the cost of a tree, which has n - 1 edges: each of at most `long` carries at most `total`
+pub treeCost-most : (g : Graph) (r : ℕ) (p mu nu : ℕ → ℕ) (long total : ℕ) → r < g .n → ((x : ℕ) → x < g .n → toParent g p x ≤ long)
+    → sum (g .n) mu ≤ total → sum (g .n) nu ≤ total → treeCost g r p mu nu + long * total ≤ g .n * (long * total)
+unfolding flowCost
+treeCost-most g r p mu nu long total h short before after =
+    let carried : ℕ → ℕ = λ x. gap (subtotal p (g .n) mu x) (subtotal p (g .n) nu x) in
+    let f : ℕ → ℕ = λ x. inner r x (toParent g p x * carried x) in
+    let full : ℕ → ℕ = λ x. cond (eqb x r) (long * total) (f x) in
+    let at-root : f r ≡ 0 = rw (eqb-self r) in
+    let full-root : full r ≡ long * total = rw (eqb-self r) in
+    let each : (x : ℕ) → x < g .n → full x ≤ long * total
+    = λ x l.
+    let light : carried x ≤ total = omega (arith, subtotal-le p (g .n) mu x, subtotal-le p (g .n) nu x) in
+    case≡ x r
+    (λ e. rw (e, eqb-self r) (omega arith))
+    (λ d. rw (ne-eqb x r d) (mul-le-mul (short x l) light)) in
+    omega (
+      arith,
+      treeCost-flow g r p mu nu,
+      sum-change (g .n) r f full h (λ x _ d. rw (ne-eqb x r d)),
+      sum-le-mul (g .n) (long * total) full each,
+      at-root,
+      full-root,
+    )

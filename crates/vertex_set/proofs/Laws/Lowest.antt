@@ -38,8 +38,33 @@ unfolding lowest
 lowest-ext f g zero i h = refl
 lowest-ext f g (suc k) i h = rw (h i (omega arith), lowest-ext f g k (suc i) (λ x l. h x (omega arith)))
 
+-- it holds at no number before
+pub lowest-before : (f : ℕ → Bool) (k i x : ℕ) → i ≤ x → x < lowest f k i → f x ≡ false
+unfolding lowest
+lowest-before f zero i x a l = absurd (omega arith)
+lowest-before f (suc k) i x a l =
+    case (f i)
+    (λ e. let g : x < i = rw e at l in absurd (omega arith))
+    (λ e. let g : x < lowest f k (suc i) = rw e at l in case≡ x i (λ q. rw q e) (λ d. lowest-before f k (suc i) x (omega arith) g))
+
+-- where the test holds nowhere
+pub lowest-absent : (f : ℕ → Bool) (k i : ℕ) → ((x : ℕ) → i ≤ x → x < i + k → f x ≡ false) → lowest f k i ≡ i + k
+unfolding lowest
+lowest-absent f zero i h = omega arith
+lowest-absent f (suc k) i h =
+    rw (h i (omega arith) (omega arith)) (omega (arith, lowest-absent f k (suc i) (λ x a l. h x (omega arith) (omega arith))))
+
+-- the one that it is: the test holds there, and at no number before it
+pub lowest-is : (f : ℕ → Bool) (k i x : ℕ) → i ≤ x → x < i + k → f x ≡ true → ((y : ℕ) → i ≤ y → y < x → f y ≡ false) → lowest f k i ≡ x
+unfolding lowest
+lowest-is f zero i x a l e n = absurd (omega arith)
+lowest-is f (suc k) i x a l e n =
+    case≡ x i
+    (λ q. let here : f i ≡ true = ap f (sym q) ∙ e in rw here (sym q))
+    (λ d. rw (n i (omega arith) (omega arith)) (lowest-is f k (suc i) x (omega arith) (omega arith) e (λ y g h. n y (omega arith) h)))
+
 -- with more numbers to look at
-lowest-more : (f : ℕ → Bool) (k m i : ℕ) → k ≤ m → lowest f k i < i + k → lowest f m i ≡ lowest f k i
+pub lowest-more : (f : ℕ → Bool) (k m i : ℕ) → k ≤ m → lowest f k i < i + k → lowest f m i ≡ lowest f k i
 unfolding lowest
 lowest-more f zero m i l h = absurd (omega arith)
 lowest-more f (suc k) zero i l h = absurd (omega arith)

@@ -14,7 +14,8 @@ use Rattle.spanning_tree.proofs.Laws.TreeValue.{held-at}
 use Rattle.image.specs.Image.{hasTree, vertexCount}
 use Rattle.host_record.specs.Record.{recordBytes, recordSize}
 use Rattle.host_record.proofs.Laws.Record.{record-ext}
-use Rattle.image_answer.specs.Steps.Answered.{answerCost, answerRoot, answerParent, answerPotential, answerPlan, Answered}
+use Rattle.image_answer.specs.ImageAnswer.{answerCost}
+use Rattle.image_answer.specs.Steps.Answered.{answerRoot, answerParent, answerPotential, answerPlan, Answered}
 use Rattle.image_answer.proofs.Laws.Answer.{number, passes, best-found, success-is, potentials-filled, plan-filled, filled-at, plan-entry}
 use Rattle.weight_mover.specs.Run.{planRecord, evaluatedRecord, answerRecord, Ran}
 

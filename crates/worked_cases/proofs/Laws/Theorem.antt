@@ -31,7 +31,8 @@ use Rattle.duality.specs.BestCost.{least, parentTables, costs, bestCost}
 use Rattle.transport_problem.specs.Checks.{measuresLong}
 use Rattle.optimal_transport.specs.Solve.{solveRefusal}
 use Rattle.little_endian.specs.LittleEndian.{two, byteOf}
-use Rattle.image.specs.Image.{sizeOk, sectionOk, layoutOk}
+use Rattle.directory.specs.Directory.{pairOk}
+use Rattle.image.specs.Image.{sizeOk, layoutOk}
 use Rattle.image.specs.ImageChecks.{imageChecks}
 use Rattle.packed_image.specs.Packed.{header, packed}
 use Rattle.image_writer.specs.ImageBytes.{section, imageBytes}
@@ -41,6 +42,9 @@ use Rattle.host_record.specs.Record.{recordBytes}
 use Rattle.image_reader.specs.Read.{roomOk}
 use Rattle.image_answer.specs.ImageAnswer.{answerRefusal}
 use Rattle.weight_mover.specs.Run.{answerRecord, evaluatedRecord}
+use Rattle.cost_sheet.specs.Sheet.{countOf, costSum, greatestCost, firstGreatest}
+use Rattle.image_sequence.specs.Sequence.{sequenceOk}
+use Rattle.sequence_report.specs.Report.{reportRefusal}
 use Rattle.decimal_text.specs.Decimal.{digits}
 use Rattle.listing_lines.specs.Lines.{entryLine, rowLines, planLines}
 use Rattle.listing.specs.Listing.{listing, evaluatedListing}
@@ -49,10 +53,11 @@ use Rattle.worked_cases.specs.Cases.{image-b, cases, images}
 use Rattle.worked_cases.specs.Marks.{marked, mark-cases}
 use Rattle.worked_cases.specs.Images.{writes, rewrites, write-cases, rewrite-cases}
 use Rattle.worked_cases.specs.Queries.{reaches, finds, within-cases, nearest-cases}
+use Rattle.worked_cases.specs.Reports.{reports, report-cases}
 use Rattle.worked_cases.specs.Weights.{turnsIn, turnsOut, weight-cases, amount-cases}
 
 pub cases-hold : every holds cases && every reads images ≡ true
-unfolding all any sum sumℤ tab rows climb below depth joined edgeLength refusal verticesOk listsFit edgeFits lengthFits reached connected sizeChecks edgeChecks totalOk totalsEqual parentsOk treeEdgesOk chainsOk measureChecks treeChecks parentsLong answersOk imbalance potential treeCost flatMap least parentTables costs bestCost measuresLong solveRefusal lowest moved layer layers plan moves two sizeOk sectionOk layoutOk roomOk imageChecks byteOf recordBytes answerRefusal evaluatedRecord digits entryLine rowLines planLines evaluatedListing listing sames certifies holds reads every cases images matched
+unfolding all any sum sumℤ tab rows climb below depth joined edgeLength refusal verticesOk listsFit edgeFits lengthFits reached connected sizeChecks edgeChecks totalOk totalsEqual parentsOk treeEdgesOk chainsOk measureChecks treeChecks parentsLong answersOk imbalance potential treeCost flatMap least parentTables costs bestCost measuresLong solveRefusal lowest moved layer layers plan moves two sizeOk pairOk layoutOk roomOk imageChecks byteOf recordBytes answerRefusal evaluatedRecord digits entryLine rowLines planLines evaluatedListing listing sames certifies holds reads every cases images matched
 cases-hold = refl
 
 -- the record of B's image without a tree begins with the best cost, whichever tree and potential come back
@@ -72,10 +77,15 @@ weights-hold = refl
 
 -- and its writer of images
 pub images-written : every writes write-cases && every rewrites rewrite-cases ≡ true
-unfolding all sum tab rows appended refusal verticesOk listsFit sizeChecks two byteOf sizeOk sectionOk layoutOk imageChecks header packed section imageBytes tablesOk numbersOk writeChecks rewriteRefusal sames every writes rewrites
+unfolding all sum tab rows appended refusal verticesOk listsFit sizeChecks two byteOf sizeOk pairOk layoutOk imageChecks header packed section imageBytes tablesOk numbersOk writeChecks rewriteRefusal sames every writes rewrites
 images-written = refl
 
 -- and its queries by distance
 pub queries-answered : every reaches within-cases && every finds nearest-cases ≡ true
 unfolding all any sum tab joined edgeLength refusal verticesOk listsFit edgeFits lengthFits reached connected sizeChecks edgeChecks totalOk mask via distance withinRefusal wordWithin nearestRefusal nearer nearest every reaches finds
 queries-answered = refl
+
+-- and its reports
+pub reports-told : every reports report-cases ≡ true
+unfolding all any sum sumℤ tab climb below joined edgeLength refusal verticesOk listsFit edgeFits lengthFits reached connected edgeChecks totalOk totalsEqual parentsOk treeEdgesOk chainsOk measureChecks treeChecks imbalance treeCost flatMap least parentTables costs bestCost lowest two sizeOk pairOk layoutOk imageChecks answerRefusal countOf costSum greatestCost firstGreatest sequenceOk reportRefusal sames every reports
+reports-told = refl

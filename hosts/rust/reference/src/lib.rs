@@ -13,11 +13,13 @@
 //! | [`flow`] | distances by Dijkstra, the least cost by successive shortest paths |
 //! | [`exhaustive`] | all spanning trees, all plans and all paths of a small problem |
 //! | [`record`] | the host record, and the test that an answer is right |
+//! | [`report`] | the report on an image sequence, over the answers to its images |
 //! | [`random`] | random problems, valid and faulty, and damaged images |
 //! | [`random_lists`] | random arguments of the calls over tables |
 //! | [`random_writer`] | random arguments of the writer, and images with anything between their sections |
 //! | [`random_queries`] | random questions from a start, and ones with faults |
 //! | [`random_trees`] | spanning trees: best ones, nearly best ones, and those where descent stalls |
+//! | [`sequences`] | image sequences, by hand and random, and directories with faults |
 //! | [`runs`] | how many cases a test runs, and from which seed |
 //!
 //! Speed is no aim here; the point is another algorithm, short enough to be read.
@@ -34,7 +36,9 @@ pub mod random_queries;
 pub mod random_trees;
 pub mod random_writer;
 pub mod record;
+pub mod report;
 pub mod runs;
+pub mod sequences;
 pub mod tree;
 pub mod weights;
 pub mod writer;

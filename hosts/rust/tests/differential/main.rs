@@ -8,6 +8,7 @@
 //! | `writer` | `mover_write_image` |
 //! | `one_place` | the same on patches that differ in one place |
 //! | `rewriter` | `mover_rewrite` |
+//! | `report` | `mover_report` |
 //! | `trees` | the tree by value |
 //! | `ancestors` | `mover_mark_ancestors` |
 //! | `queries` | `mover_vertices_within`, `mover_nearest_vertex` |
@@ -26,6 +27,7 @@ mod lent;
 mod one_place;
 mod queries;
 mod reader;
+mod report;
 mod rewriter;
 mod spoils;
 mod tables;
@@ -33,6 +35,7 @@ mod trees;
 mod weights;
 mod writer;
 mod wrong_queries;
+mod wrong_report;
 mod wrong_rewriter;
 mod wrong_tables;
 mod wrong_weights;

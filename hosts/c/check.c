@@ -2,7 +2,7 @@
  * tables as lent, empty tables without an address, images at odd addresses, images written and rewritten against images that are built
  * here without the library, damaged images and trees, climbs in any order on any words, every amount as a weight and back, weights of
  * any bits, what is within reach and nearest against ways that are found here, reports on sequences against reports that are made here
- * image by image, reels damaged at every place, and the stack that a call uses.
+ * image by image, reels damaged at every place, pages of trees against pages that are printed here, and the stack that a call uses.
  * A line for each group, and "N passed, M failed" last. */
 #define _POSIX_C_SOURCE 200112L
 #include "mover.h"
@@ -213,6 +213,16 @@ static void check_mark_ancestors(const problem *p, size_t lacks, uint32_t wanted
   expect_outcome("mover_mark_ancestors", p, number, wanted, &masks, &written, 1);
 }
 
+/* A page, in a buffer that lacks so many bytes. */
+static void check_write_page(const problem *p, size_t lacks, uint32_t wanted) {
+  lent buffer;
+  size_t written = 96 * p->n, length = 99;
+  uint32_t number = mover_write_page(p->n, p->a, p->a_len, p->b, p->b_len, p->lengths, p->lengths_len, p->mu, p->mu_len, p->nu, p->nu_len,
+                                     p->root, p->parents, p->parents_len, (uint8_t *)lend(&buffer), written - lacks, &length);
+  expect_outcome("mover_write_page", p, number, wanted, &buffer, &written, 1);
+  expect(length == (number == MOVER_OK ? written : 0), "the length", "mover_write_page", number);
+}
+
 static void check_problem(const problem *p) {
   size_t k;
   problem longer = *p;
@@ -220,9 +230,12 @@ static void check_problem(const problem *p) {
   check_evaluate(p, 3, p->number);
   check_solve(p, 3, up_to(p->number, 7));
   check_is_optimal(p);
+  check_write_page(p, 0, p->number);
   check_mark_ancestors(p, 0, p->number == 1 || p->number == 8 || p->number == 10 ? p->number : 0); /* no edges, no amounts */
   if (p->number != 0) return;
   check_mark_ancestors(p, 1, 2);
+  check_write_page(p, 1, 2);
+  check_write_page(p, 96, 2);
   for (k = 0; k < 3; k++) {
     check_evaluate(p, k, 2);
     check_solve(p, k, 2);
@@ -232,16 +245,19 @@ static void check_problem(const problem *p) {
   check_evaluate(&longer, 3, 2);
   check_solve(&longer, 3, 2);
   check_is_optimal(&longer);
+  check_write_page(&longer, 0, 2);
   longer.mu_len--;
   longer.nu_len--;
   check_evaluate(&longer, 3, 2);
   check_solve(&longer, 3, 2);
   check_is_optimal(&longer);
+  check_write_page(&longer, 0, 2);
   longer.nu_len++;
   longer.parents_len++;
   check_evaluate(&longer, 3, 2);
   check_solve(&longer, 3, 0);
   check_is_optimal(&longer);
+  check_write_page(&longer, 0, 2);
   check_mark_ancestors(&longer, 0, 2);
 }
 
@@ -292,6 +308,28 @@ static void check_empty_images(void) {
          "nothing at all", "mover_write_image", (unsigned)length);
   length = 99;
   expect(mover_rewrite(NULL, 0, NULL, 0, &length) == 11 && length == 0, "nothing at all", "mover_rewrite", (unsigned)length);
+}
+
+/* A page of one vertex without edges; no buffer, no parents, no paintings, nothing at all. */
+static void check_empty_pages(void) {
+  const uint64_t seven = 7;
+  const uint32_t zero = 0;
+  uint8_t page[96];
+  size_t length = 99;
+  expect(mover_write_page(1, NULL, 0, NULL, 0, NULL, 0, &seven, 1, &seven, 1, 0, &zero, 1, page, 96, &length) == 0 && length == 96,
+         "no edges", "mover_write_page", (unsigned)length);
+  expect(page[0] == '0' && page[1] == '0' && page[95] == 10, "no edges", "mover_write_page, byte", page[0]);
+  expect(mover_write_page(1, NULL, 0, NULL, 0, NULL, 0, &seven, 1, &seven, 1, 0, &zero, 1, NULL, 0, &length) == 2 && length == 0,
+         "no buffer", "mover_write_page", (unsigned)length);
+  length = 99;
+  expect(mover_write_page(1, NULL, 0, NULL, 0, NULL, 0, &seven, 1, &seven, 1, 0, NULL, 0, page, 96, &length) == 2 && length == 0,
+         "no parents", "mover_write_page", (unsigned)length);
+  length = 99;
+  expect(mover_write_page(1, NULL, 0, NULL, 0, NULL, 0, NULL, 0, NULL, 0, 0, &zero, 1, page, 96, &length) == 2 && length == 0,
+         "no paintings", "mover_write_page", (unsigned)length);
+  length = 99;
+  expect(mover_write_page(0, NULL, 0, NULL, 0, NULL, 0, NULL, 0, NULL, 0, 0, NULL, 0, NULL, 0, &length) == 1 && length == 0,
+         "nothing at all", "mover_write_page", (unsigned)length);
 }
 
 /* One vertex without edges, no painting, two vertices apart, nothing at all. */
@@ -369,6 +407,7 @@ static void check_empty(void) {
   expect(mover_to_amounts(&weight, 1, NULL, 0) == 2 && mover_to_weights(&cost, 1, NULL, 0) == 2, "no room", "mover_to_...", 0);
   expect(mover_run(NULL, 0, NULL, 0) == 11, "nothing at all", "mover_run", 0);
   check_empty_images();
+  check_empty_pages();
   check_empty_brushes();
   check_empty_reports();
   tree = mover_tree_new(3, 1, NULL, 0);
@@ -520,7 +559,7 @@ static void check_run(void) {
   expect(mover_run(block, length, at, ROOM) == 10 && kept_past(&record, 0), "parents 0 2 1", "mover_run", 10);
 }
 
-/* ---- images that a call writes */
+/* ---- images and pages that a call writes */
 
 /* What a call left: its number, the length, and the block in which its buffer stands, from byte `shift` of what is lent. */
 typedef struct outcome {
@@ -535,17 +574,18 @@ static uint8_t *lend_buffer(outcome *w, size_t shift) {
   return (uint8_t *)lend(&w->block) + shift;
 }
 
-/* What is not as wanted, or NULL: an image of this length stands in the buffer, none after a refusal, and all round it is as lent. */
-static const char *wrong_in(const outcome *w, uint32_t number, const uint8_t *image, size_t length) {
+/* What is not as wanted, or NULL: an image or a page of this length stands in the buffer, none after a refusal, and all round it is as
+ * lent. */
+static const char *wrong_in(const outcome *w, uint32_t number, const uint8_t *bytes, size_t length) {
   const uint8_t *buffer = (const uint8_t *)w->block.block + GUARD + w->shift;
   if (w->number != number) return "the number";
   if (w->length != length) return "the length";
-  if (memcmp(buffer, image, length) != 0) return "the bytes";
+  if (memcmp(buffer, bytes, length) != 0) return "the bytes";
   return kept_but(&w->block, w->shift, length) ? NULL : "the bytes round it";
 }
 
-static int expect_written(const char *name, const outcome *w, uint32_t number, const uint8_t *image, size_t length) {
-  const char *wrong = wrong_in(w, number, image, length);
+static int expect_written(const char *name, const outcome *w, uint32_t number, const uint8_t *bytes, size_t length) {
+  const char *wrong = wrong_in(w, number, bytes, length);
   expect(wrong == NULL, wrong ? wrong : "", name, w->number);
   return wrong == NULL;
 }
@@ -2059,16 +2099,9 @@ static uint32_t draw_length(size_t kind, uint32_t same) {
   return (uint32_t)(draw_below(2) == 0 ? draw_below(3) : 65535 - draw_below(3));
 }
 
-/* A sound patch without a painting. What stands past its lists would change every answer. */
-static void draw_patch(problem *p) {
-  static const uint32_t lengths[4] = {0, 1, 1000, 65535};
-  uint8_t joined[64][64];
-  size_t kind = draw_below(4), x, y, m = 0, i;
-  uint32_t same = lengths[draw_below(4)];
-  memset(p, 0, sizeof *p);
-  p->name = "any patch";
-  p->n = p->mu_len = draw_below(8) == 0 ? 64 - draw_below(32) : 1 + draw_below(12);
-  draw_joined(p->n, joined);
+/* The edges of the vertices that are joined. What stands past their lists would change every answer. */
+static void put_edges(problem *p, uint8_t (*joined)[64], size_t kind, uint32_t same) {
+  size_t x, y, m = 0, i;
   for (x = 0; x < p->n; x++)
     for (y = x + 1; y < p->n; y++) {
       if (!joined[x][y] && !joined[y][x]) continue;
@@ -2078,6 +2111,19 @@ static void draw_patch(problem *p) {
     }
   p->a_len = p->b_len = p->lengths_len = m;
   for (i = m; i < E; i++) p->b[i] = (uint32_t)p->n - 1;
+}
+
+/* A sound patch without a painting. */
+static void draw_patch(problem *p) {
+  static const uint32_t lengths[4] = {0, 1, 1000, 65535};
+  uint8_t joined[64][64];
+  size_t kind = draw_below(4), i;
+  uint32_t same = lengths[draw_below(4)];
+  memset(p, 0, sizeof *p);
+  p->name = "any patch";
+  p->n = p->mu_len = draw_below(8) == 0 ? 64 - draw_below(32) : 1 + draw_below(12);
+  draw_joined(p->n, joined);
+  put_edges(p, joined, kind, same);
   for (i = p->n; i < V; i++) p->mu[i] = UINT64_MAX;
 }
 
@@ -3048,6 +3094,656 @@ static void check_reports(void) {
   check_spoiled_reports();
 }
 
+/* ---- pages of trees */
+
+/* The length of the edge between two vertices, or UINT32_MAX if they share none. */
+static uint32_t length_between(const problem *p, size_t x, size_t y) {
+  size_t e;
+  for (e = 0; e < p->a_len; e++)
+    if ((p->a[e] == x && p->b[e] == y) || (p->a[e] == y && p->b[e] == x)) return p->lengths[e];
+  return UINT32_MAX;
+}
+
+/* Do the edges join every vertex to vertex 0? */
+static bool all_joined(const problem *p) {
+  uint64_t word = 1, before;
+  size_t e;
+  do {
+    before = word;
+    for (e = 0; e < p->a_len; e++) {
+      uint64_t ends = (uint64_t)1 << p->a[e] | (uint64_t)1 << p->b[e];
+      if (word & ends) word |= ends;
+    }
+  } while (word != before);
+  return word == UINT64_MAX >> (64 - p->n);
+}
+
+/* A total, or 16,777,217 if it is above the bound. */
+static uint64_t total_of(const uint64_t *amounts, size_t n) {
+  uint64_t total = 0;
+  size_t v;
+  for (v = 0; v < n; v++) {
+    if (amounts[v] > 16777216 - total) return 16777217;
+    total += amounts[v];
+  }
+  return total;
+}
+
+/* The number of checks 8 to 10. */
+static uint32_t tree_number(const problem *p) {
+  size_t n = p->n, v, x, steps;
+  if (p->root >= n || p->parents[p->root] != p->root) return 8;
+  for (v = 0; v < n; v++)
+    if (p->parents[v] >= n || (p->parents[v] == v && v != p->root)) return 8;
+  for (v = 0; v < n; v++)
+    if (v != p->root && length_between(p, v, p->parents[v]) == UINT32_MAX) return 9;
+  for (v = 0; v < n; v++) {
+    for (x = v, steps = 0; steps < n; steps++) x = p->parents[x];
+    if (x != p->root) return 10;
+  }
+  return 0;
+}
+
+/* The number that a call is to give, with a buffer of so many bytes. */
+static uint32_t page_number(const problem *p, size_t room) {
+  uint32_t number = edges_number(p);
+  size_t n = p->n;
+  if (number == 1) return 1;
+  if (p->mu_len != n || p->nu_len != n || p->parents_len != n || room < 96 * n) return 2;
+  if (number != 0) return number;
+  if (!all_joined(p)) return 5;
+  if (total_of(p->mu, n) > 16777216 || total_of(p->nu, n) > 16777216) return 6;
+  if (total_of(p->mu, n) != total_of(p->nu, n)) return 7;
+  return tree_number(p);
+}
+
+/* What the lines of a page tell of each vertex. */
+typedef struct figures {
+  size_t depth[64];
+  int64_t imbalance[64], potential[64];
+} figures;
+
+/* From the definitions: over the vertices below each vertex, and over the edges above it. */
+static void find_figures(const problem *p, figures *f) {
+  uint64_t below[64] = {0};
+  size_t n = p->n, x, y;
+  memset(f, 0, sizeof *f);
+  for (y = 0; y < n; y++) climb(p->root, p->parents, y, below);
+  for (x = 0; x < n; x++)
+    for (y = 0; y < n; y++)
+      if (below[x] >> y & 1) f->imbalance[x] += (int64_t)p->mu[y] - (int64_t)p->nu[y];
+  for (x = 0; x < n; x++) {
+    int64_t sign = (f->imbalance[x] > 0) - (f->imbalance[x] < 0);
+    if (x == p->root) continue;
+    for (y = 0; y < n; y++) {
+      if (!(below[x] >> y & 1)) continue;
+      f->depth[y]++;
+      f->potential[y] += sign * (int64_t)length_between(p, x, p->parents[x]);
+    }
+  }
+}
+
+/* Are they those of mover_evaluate? */
+static bool evaluates_to(const problem *p, const figures *f) {
+  static uint32_t plan[4096];
+  int32_t imbalance[64], potential[64];
+  uint64_t cost;
+  uint32_t moves;
+  size_t same = 0, v;
+  if (mover_evaluate(p->n, p->a, p->a_len, p->b, p->b_len, p->lengths, p->lengths_len, p->mu, p->mu_len, p->nu,
+                     p->nu_len, p->root, p->parents, p->parents_len, imbalance, 64, potential, 64, plan, 4096, &cost,
+                     &moves) != MOVER_OK)
+    return false;
+  for (v = 0; v < p->n; v++) same += imbalance[v] == f->imbalance[v] && potential[v] == f->potential[v];
+  return same == p->n;
+}
+
+/* What is printed otherwise than the header says, on purpose. */
+typedef struct slips {
+  bool potential_first, minus_apart, falling;
+  size_t deeper;
+} slips;
+
+static const slips as_stated = {false, false, false, 0};
+
+/* A number at the end of eleven spaces. */
+static void put_number(uint8_t *columns, int64_t value, const slips *s) {
+  uint64_t rest = (uint64_t)(value < 0 ? -value : value);
+  size_t at = 11;
+  do {
+    columns[--at] = (uint8_t)('0' + rest % 10);
+    rest /= 10;
+  } while (rest > 0);
+  if (value < 0) columns[s->minus_apart ? 0 : at - 1] = '-';
+}
+
+static void put_line(uint8_t *line, size_t v, const figures *f, const slips *s) {
+  uint8_t *number = line + f->depth[v] + s->deeper;
+  memset(line, ' ', 95);
+  line[95] = 10;
+  number[0] = (uint8_t)('0' + v / 10);
+  number[1] = (uint8_t)('0' + v % 10);
+  put_number(line + (s->potential_first ? 79 : 68), f->imbalance[v], s);
+  put_number(line + (s->potential_first ? 68 : 79), f->potential[v], s);
+}
+
+/* A page; returns its length. Of the vertices that wait for their lines, the last one is the next. */
+static size_t build_page(const problem *p, const figures *f, const slips *s, uint8_t *page) {
+  size_t waiting[64], count = 1, lines = 0, c;
+  waiting[0] = p->root;
+  while (count > 0) {
+    size_t v = waiting[--count];
+    put_line(page + 96 * lines++, v, f, s);
+    for (c = 0; c < p->n; c++) {
+      size_t child = s->falling ? c : p->n - 1 - c;
+      if (child != p->root && p->parents[child] == v) waiting[count++] = child;
+    }
+  }
+  return 96 * lines;
+}
+
+static uint32_t write_page(const problem *p, uint8_t *buffer, size_t room, size_t *length) {
+  return mover_write_page(p->n, p->a, p->a_len, p->b, p->b_len, p->lengths, p->lengths_len, p->mu, p->mu_len, p->nu,
+                          p->nu_len, p->root, p->parents, p->parents_len, room > 0 ? buffer : NULL, room, length);
+}
+
+/* Writes into a buffer of so many bytes and compares with the built page; returns the number that is wanted. */
+static uint32_t check_page(const char *name, const problem *p, size_t shift, size_t room) {
+  static outcome w;
+  static problem given;
+  uint8_t page[MOVER_PAGE_MAX];
+  figures f;
+  uint32_t wanted = page_number(p, room);
+  size_t length = 0;
+  uint8_t *buffer = lend_buffer(&w, shift);
+  if (wanted == MOVER_OK) {
+    find_figures(p, &f);
+    length = build_page(p, &f, &as_stated, page);
+    expect(length == 96 * p->n && length == MOVER_PAGE_SIZE(p->n), "MOVER_PAGE_SIZE", name, (unsigned)length);
+    expect(evaluates_to(p, &f), "the figures of mover_evaluate", name, (unsigned)p->n);
+  }
+  memcpy(&given, p, sizeof given);
+  w.number = write_page(p, buffer, room, &w.length);
+  expect(!memcmp(&given, p, sizeof given), "what was given", name, w.number);
+  expect_written(name, &w, wanted, page, length);
+  return wanted;
+}
+
+/* Buffers as long as the page, longer and too short, at this place of eight bytes; the number is told. */
+static void check_rooms(const char *name, const problem *p, size_t shift, uint32_t told) {
+  size_t length = 96 * p->n;
+  uint32_t shorter = told == 1 ? 1 : 2;
+  expect(check_page(name, p, shift, length) == told, name, "the page's length", told);
+  expect(check_page(name, p, shift, length + 1) == told, name, "one byte more", told);
+  expect(check_page(name, p, shift, ROOM - shift) == told, name, "many more", told);
+  expect(check_page(name, p, shift, 0) == shorter, name, "no buffer", told);
+  if (length == 0) return;
+  expect(check_page(name, p, shift, length - 1) == shorter, name, "one byte too few", told);
+  expect(check_page(name, p, shift, length - 96) == shorter, name, "one line too few", told);
+}
+
+static void check_paged_problems(void) {
+  size_t k, shift;
+  for (k = 0; k < PROBLEMS; k++)
+    for (shift = 0; shift < 8; shift++) check_rooms(problems[k].name, &problems[k], shift, problems[k].number);
+}
+
+/* A path through five vertices, under its middle. */
+static const problem middle = {
+    "a path under its middle", 0, 5, 4, 4, 4, {0, 1, 2, 3}, {1, 2, 3, 4}, {30, 4, 500, 65535},
+    5, 5, {0, 17, 3, 16777190, 6}, {12, 1, 7, 16777196, 0}, 2, 5, {1, 2, 2, 2, 3}};
+
+/* Pages that stand here byte for byte. */
+static const uint8_t page_a[4 * 96 + 1] =
+    "03                                                                            0          0     \n"
+    " 02                                                                           3          1     \n"
+    "  01                                                                          3          4     \n"
+    "   00                                                                         5          6     \n";
+
+static const uint8_t page_middle[5 * 96 + 1] =
+    "02                                                                            0          0     \n"
+    " 01                                                                           4          4     \n"
+    "  00                                                                        -12        -26     \n"
+    " 03                                                                           0          0     \n"
+    "  04                                                                          6      65535     \n";
+
+static const uint8_t page_one[96 + 1] =
+    "00                                                                            0          0     \n";
+
+/* A page told by hand: written, and built. */
+static void check_told_page(const problem *p, const uint8_t *page, size_t length) {
+  static outcome w;
+  uint8_t built[MOVER_PAGE_MAX];
+  figures f;
+  w.number = write_page(p, lend_buffer(&w, 1), ROOM - 1, &w.length);
+  expect_written(p->name, &w, MOVER_OK, page, length);
+  find_figures(p, &f);
+  expect(build_page(p, &f, &as_stated, built) == length && !memcmp(built, page, length), p->name, "built",
+         (unsigned)length);
+}
+
+/* The same amounts before and after, from one table: nothing goes anywhere. */
+static void check_one_painting(void) {
+  static outcome w;
+  problem p = problems[CASE_A];
+  uint8_t page[4 * 96];
+  figures f;
+  uint8_t *buffer = lend_buffer(&w, 7);
+  w.number = mover_write_page(4, p.a, 3, p.b, 3, p.lengths, 3, p.mu, 4, p.mu, 4, 3, p.parents, 4, buffer, sizeof page,
+                              &w.length);
+  memcpy(p.nu, p.mu, sizeof p.nu);
+  find_figures(&p, &f);
+  build_page(&p, &f, &as_stated, page);
+  expect_written("one painting", &w, MOVER_OK, page, sizeof page);
+}
+
+static void check_told_pages(void) {
+  expect(MOVER_PAGE_LINE == 96, "MOVER_PAGE_LINE", "bytes", MOVER_PAGE_LINE);
+  expect(MOVER_PAGE_MAX == 96 * 64 && MOVER_PAGE_SIZE(64) == MOVER_PAGE_MAX, "MOVER_PAGE_MAX", "bytes", MOVER_PAGE_MAX);
+  check_told_page(&problems[CASE_A], page_a, sizeof page_a - 1);
+  check_told_page(&middle, page_middle, sizeof page_middle - 1);
+  check_told_page(&problems[CASE_E], page_one, sizeof page_one - 1);
+  check_one_painting();
+}
+
+/* The same tree under another root: the parents on the way up from it are turned round. */
+static void move_root(problem *p, size_t root) {
+  uint32_t x = (uint32_t)root, child = x;
+  p->root = root;
+  for (;;) {
+    uint32_t parent = p->parents[x];
+    p->parents[x] = child;
+    if (parent == x) return;
+    child = x;
+    x = parent;
+  }
+}
+
+typedef enum shape { PATH, STAR, CATERPILLAR, ANY, SHAPES } shape;
+
+/* A tree of n vertices, which stand in this order, under the first of them. */
+static void put_tree(problem *p, shape kind, size_t n, const uint32_t *order) {
+  size_t spine = kind == PATH ? n : kind == STAR ? 1 : n / 2 + 1, i, from;
+  memset(p, 0, sizeof *p);
+  p->name = kind == PATH ? "a path" : kind == STAR ? "a star" : kind == CATERPILLAR ? "a caterpillar" : "any tree";
+  p->n = p->mu_len = p->nu_len = p->parents_len = n;
+  p->root = p->parents[order[0]] = order[0];
+  for (i = 1; i < n; i++) {
+    from = kind == ANY ? draw_below(i) : i < spine ? i - 1 : (i - spine) * 7 % spine;
+    p->parents[order[i]] = order[from];
+  }
+  for (i = n; i < V; i++) {
+    p->mu[i] = p->nu[i] = UINT64_MAX; /* no one looks at these */
+    p->parents[i] = 1;
+  }
+}
+
+/* The tree's edges, and so many others or fewer. */
+static void join_tree(problem *p, size_t more, size_t kind, uint32_t same) {
+  uint8_t joined[64][64];
+  size_t i;
+  memset(joined, 0, sizeof joined);
+  for (i = 0; i < p->n; i++) joined[i][p->parents[i]] = 1;
+  for (i = 0; i < more; i++) joined[draw_below(p->n)][draw_below(p->n)] = 1;
+  put_edges(p, joined, kind, same);
+}
+
+/* All from one vertex to another, all back, and all where it is. */
+static void check_large_amounts(problem *p, size_t from, size_t to, size_t shift) {
+  size_t k;
+  for (k = 0; k < 3; k++) {
+    memset(p->mu, 0, 8 * p->n);
+    memset(p->nu, 0, 8 * p->n);
+    p->mu[k == 0 ? from : to] = p->nu[k == 1 ? from : to] = 16777216;
+    check_rooms(p->name, p, shift, MOVER_OK);
+  }
+}
+
+/* Paths, stars and caterpillars of all 64 vertices, numbered upwards, downwards and in two further ways, each edge
+ * 65,535 long, under every vertex; and each of these of every smaller size. */
+static void check_shapes(void) {
+  static const uint32_t turns[4][2] = {{1, 0}, {63, 63}, {5, 0}, {27, 40}};
+  static problem p;
+  uint32_t order[64];
+  size_t kind, k, i, root, n;
+  for (kind = PATH; kind < ANY; kind++)
+    for (k = 0; k < 4; k++) {
+      for (i = 0; i < 64; i++) order[i] = (uint32_t)(i * turns[k][0] + turns[k][1]) % 64;
+      put_tree(&p, (shape)kind, 64, order);
+      join_tree(&p, 0, 2, 65535);
+      for (root = 0; root < 64; root++) {
+        move_root(&p, root);
+        check_large_amounts(&p, order[63], order[root % 63], root % 8);
+      }
+    }
+  for (kind = PATH; kind < ANY; kind++)
+    for (n = 1; n < 64; n++) {
+      draw_order(n, order);
+      put_tree(&p, (shape)kind, n, order);
+      join_tree(&p, 0, 1, 0);
+      move_root(&p, draw_below(n));
+      check_large_amounts(&p, draw_below(n), draw_below(n), n % 8);
+    }
+}
+
+/* The last line of a page of 64, told by hand: the vertex, and what stands from column 68 on. */
+static void check_last_line(const problem *p, size_t depth, const char *told) {
+  static outcome w;
+  uint8_t *page = lend_buffer(&w, 0), line[96];
+  memset(line, ' ', 96);
+  memcpy(line + depth, told, 2);
+  memcpy(line + 68, told + 2, 28);
+  w.number = write_page(p, page, MOVER_PAGE_MAX, &w.length);
+  expect(w.number == MOVER_OK && w.length == 6144, p->name, "length", (unsigned)w.length);
+  expect(strlen(told) == 30 && !memcmp(page + 63 * 96, line, 96), p->name, "the last line, at depth", (unsigned)depth);
+}
+
+/* The largest figures of all, of both signs, at the greatest depth. */
+static void check_largest(void) {
+  static problem p;
+  uint32_t order[64];
+  size_t i;
+  for (i = 0; i < 64; i++) order[i] = (uint32_t)i;
+  put_tree(&p, PATH, 64, order);
+  join_tree(&p, 0, 2, 65535);
+  p.mu[0] = p.nu[63] = 16777216;
+  check_last_line(&p, 63, "63  -16777216   -4128705     \n");
+  move_root(&p, 63);
+  check_last_line(&p, 63, "00   16777216    4128705     \n");
+  put_tree(&p, STAR, 64, order);
+  join_tree(&p, 0, 2, 65535);
+  p.mu[63] = p.nu[0] = 16777216;
+  check_last_line(&p, 1, "63   16777216      65535     \n");
+  move_root(&p, 63);
+  check_last_line(&p, 2, "62          0     -65535     \n");
+}
+
+/* Every number at its bound, with a tree: the path through the vertices below 63 under vertex 0, and vertex 63 on
+ * vertex 0. */
+static void fill_page_bounds(problem *p) {
+  size_t x;
+  fill_bounds(p);
+  p->nu_len = p->parents_len = 64;
+  for (x = 0; x < 64; x++) {
+    p->nu[x] = (2 * x + 1) * 4096;
+    p->parents[x] = x == 0 || x == 63 ? 0 : (uint32_t)x - 1;
+  }
+}
+
+/* One of these numbers changed, at one place or EVERY place of its list, and what the call then returns. */
+static const struct page_change {
+  const char *name;
+  field where;
+  size_t place;
+  uint64_t value;
+  uint32_t number;
+} page_changes[] = {
+    {"n 0", AT_N, 0, 0, 1},
+    {"n 63", AT_N, 0, 63, 2},
+    {"n 65", AT_N, 0, 65, 1},
+    {"n 256 + 64", AT_N, 0, 320, 1},
+    {"n 2^32 + 64", AT_N, 0, 4294967360u, 1},
+    {"n 2^61", AT_N, 0, (uint64_t)1 << 61, 1},
+    {"n SIZE_MAX", AT_N, 0, SIZE_MAX, 1},
+    {"no a", A_LEN, 0, 0, 2},
+    {"a short", A_LEN, 0, 511, 2},
+    {"a long", A_LEN, 0, 513, 2},
+    {"no b", B_LEN, 0, 0, 2},
+    {"b short", B_LEN, 0, 511, 2},
+    {"b long", B_LEN, 0, 513, 2},
+    {"no lengths", LENGTHS_LEN, 0, 0, 2},
+    {"lengths short", LENGTHS_LEN, 0, 511, 2},
+    {"lengths long", LENGTHS_LEN, 0, 513, 2},
+    {"no mu", MU_LEN, 0, 0, 2},
+    {"mu short", MU_LEN, 0, 63, 2},
+    {"mu long", MU_LEN, 0, 65, 2},
+    {"no nu", NU_LEN, 0, 0, 2},
+    {"nu short", NU_LEN, 0, 63, 2},
+    {"nu long", NU_LEN, 0, 65, 2},
+    {"no parents", PARENTS_LEN, 0, 0, 2},
+    {"parents short", PARENTS_LEN, 0, 63, 2},
+    {"parents long", PARENTS_LEN, 0, 65, 2},
+    {"an end a 63", AT_A, EVERY, 63, 3},
+    {"an end a UINT32_MAX", AT_A, EVERY, UINT32_MAX, 3},
+    {"an end b 0", AT_B, EVERY, 0, 3},
+    {"an end b 64", AT_B, EVERY, 64, 3},
+    {"an end b UINT32_MAX", AT_B, EVERY, UINT32_MAX, 3},
+    {"vertex 63 alone", AT_B, HANGS, 62, 5},
+    {"a length 0", AT_LENGTHS, EVERY, 0, 0},
+    {"a length 65536", AT_LENGTHS, EVERY, 65536, 4},
+    {"a length UINT32_MAX", AT_LENGTHS, EVERY, UINT32_MAX, 4},
+    {"an amount 0 before", AT_MU, EVERY, 0, 7},
+    {"one grain less before", AT_MU, EVERY, SHARE - 1, 7},
+    {"one grain more before", AT_MU, EVERY, SHARE + 1, 6},
+    {"a total of 2^64 before", AT_MU, EVERY, UINT64_MAX - 63 * SHARE + 1, 6},
+    {"an amount UINT64_MAX before", AT_MU, EVERY, UINT64_MAX, 6},
+    {"an amount 0 after", AT_NU, EVERY, 0, 7},
+    {"two grains less after", AT_NU, 0, 4094, 7},
+    {"one grain more after", AT_NU, 0, 4097, 6},
+    {"a total of 2^64 after", AT_NU, 0, UINT64_MAX - 16777216 + 4096 + 1, 6},
+    {"an amount UINT64_MAX after", AT_NU, EVERY, UINT64_MAX, 6},
+    {"root 63", AT_ROOT, 0, 63, 8},
+    {"root 64", AT_ROOT, 0, 64, 8},
+    {"root 256", AT_ROOT, 0, 256, 8},
+    {"root 2^32", AT_ROOT, 0, 4294967296u, 8},
+    {"root SIZE_MAX", AT_ROOT, 0, SIZE_MAX, 8},
+    {"the root's parent another", AT_PARENTS, 0, 1, 8},
+    {"a second vertex its own parent", AT_PARENTS, 20, 20, 8},
+    {"a parent 64", AT_PARENTS, EVERY, 64, 8},
+    {"a parent UINT32_MAX", AT_PARENTS, EVERY, UINT32_MAX, 8},
+    {"a parent without an edge", AT_PARENTS, 50, 20, 9},
+    {"a parent without an edge, a cycle", AT_PARENTS, 20, 50, 9},
+    {"a cycle of two", AT_PARENTS, 30, 31, 10},
+    {"a cycle of nine", AT_PARENTS, 30, 38, 10},
+    {"another parent", AT_PARENTS, 40, 33, 0},
+};
+enum { PAGE_CHANGES = sizeof page_changes / sizeof page_changes[0] };
+
+/* Each change, at every place of a list. */
+static void check_page_changes(void) {
+  static problem bounds, p;
+  size_t k, i;
+  fill_page_bounds(&bounds);
+  check_rooms(bounds.name, &bounds, 0, MOVER_OK);
+  for (k = 0; k < PAGE_CHANGES; k++) {
+    const struct page_change *c = &page_changes[k];
+    size_t first = c->place == EVERY ? 0 : c->place, end = c->place == EVERY ? places_of(c->where) : first + 1;
+    for (i = first; i < end; i++) {
+      p = bounds;
+      set_field(&p, c->where, i, c->value);
+      expect(check_page(c->name, &p, i % 8, 6144) == c->number, c->name, "at place", (unsigned)i);
+    }
+  }
+}
+
+/* Each two changes in one, the latter at the end of its list: the order of the checks is that of their numbers. In
+ * one list only two parents; amounts would add up. Each change with a buffer that is too short, and with 513 edges. */
+static void check_two_page_changes(void) {
+  static problem bounds, p;
+  size_t k, l;
+  fill_page_bounds(&bounds);
+  for (k = 0; k < PAGE_CHANGES; k++) {
+    const struct page_change *c = &page_changes[k], *d;
+    size_t place = c->place == EVERY ? 0 : c->place;
+    for (l = 0; l < PAGE_CHANGES; l++) {
+      size_t other;
+      d = &page_changes[l];
+      other = d->place == EVERY ? places_of(d->where) - 1 : d->place;
+      if (d->where == c->where && (d->where != AT_PARENTS || other == place)) continue;
+      p = bounds;
+      set_field(&p, c->where, place, c->value);
+      set_field(&p, d->where, other, d->value);
+      expect(check_page(c->name, &p, 1, ROOM - 1) == first_of(c->number, d->number), c->name, d->name, 0);
+    }
+    p = bounds;
+    set_field(&p, c->where, place, c->value);
+    expect(check_page(c->name, &p, 0, 0) == first_of(c->number, 2), c->name, "no buffer", 0);
+    expect(check_page(c->name, &p, 0, 6143) == first_of(c->number, 2), c->name, "a short buffer", 0);
+    p.a_len = p.b_len = p.lengths_len = 513;
+    expect(check_page(c->name, &p, 0, ROOM) == first_of(c->number, 2), c->name, "513 edges", 0);
+  }
+}
+
+/* What came up: the numbers; signs of the imbalance, and of the potential where the imbalance is 0; lines behind
+ * which the depth falls by more than one; pages under a root that is not vertex 0. */
+typedef struct printed {
+  unsigned numbers[11], imbalance[3], potential[3], returns, roots;
+} printed;
+
+static unsigned sign_of(int64_t value) {
+  return value < 0 ? 0 : value == 0 ? 1 : 2;
+}
+
+static void count_printed(const problem *p, printed *t) {
+  figures f;
+  uint8_t page[MOVER_PAGE_MAX];
+  size_t v, line, depth, last = 0;
+  find_figures(p, &f);
+  build_page(p, &f, &as_stated, page);
+  t->roots += p->root != 0;
+  for (v = 0; v < p->n; v++) {
+    t->imbalance[sign_of(f.imbalance[v])]++;
+    if (v != p->root && f.imbalance[v] == 0) t->potential[sign_of(f.potential[v])]++;
+  }
+  for (line = 0; line < p->n; line++) {
+    for (depth = 0; page[96 * line + depth] == ' ';) depth++;
+    t->returns += depth + 1 < last;
+    last = depth;
+  }
+}
+
+/* Amounts at few or all vertices, and the same in another order: one in four times where they were. */
+static void draw_amounts(problem *p) {
+  size_t often = 1 + draw_below(4), small = draw_below(2), n = p->n, v;
+  uint32_t order[64];
+  bool stays = draw_below(4) == 0;
+  draw_order(n, order);
+  for (v = 0; v < n; v++)
+    p->mu[v] = draw_below(often) != 0 ? 0 : small ? draw_below(4) : draw_shorter(draw_below(16777216 / n + 1), 24);
+  for (v = 0; v < n; v++) p->nu[v] = p->mu[stays ? v : order[v]];
+}
+
+/* An edge less, any parent, or a change as above in any place; n is the number of vertices before any damage. */
+static void damage_tree(problem *p, size_t n) {
+  const struct page_change *c = &page_changes[draw_below(PAGE_CHANGES)];
+  size_t kind = draw_below(6), e;
+  if (kind == 0 && p->lengths_len > 0) {
+    p->a_len = p->b_len = --p->lengths_len;
+    for (e = draw_below(p->a_len + 1); e < p->a_len; e++) {
+      p->a[e] = p->a[e + 1];
+      p->b[e] = p->b[e + 1];
+    }
+  }
+  if (kind == 1) p->parents[draw_below(n)] = (uint32_t)draw_below(n);
+  if (kind > 1) set_field(p, c->where, draw_below(n), c->value);
+}
+
+/* Trees of every shape, their vertices numbered in any order, under any root, alone or in a patch with further edges,
+ * seams too; half of them damaged once or twice, some in buffers that are too short. */
+static void check_drawn_pages(void) {
+  static problem p;
+  printed t = {{0}, {0}, {0}, 0, 0};
+  uint32_t order[64], number;
+  size_t round, count, k, n, room;
+  for (round = 0; round < 4000; round++) {
+    n = draw_below(4) == 0 ? 64 - draw_below(32) : 1 + draw_below(14);
+    draw_order(n, order);
+    put_tree(&p, (shape)draw_below(SHAPES), n, order);
+    join_tree(&p, draw_below(2) * draw_below(6 * n), draw_below(4), (uint32_t)draw_below(65536));
+    move_root(&p, draw_below(n));
+    draw_amounts(&p);
+    for (count = draw_below(2) * (1 + draw_below(2)); count > 0; count--) damage_tree(&p, n);
+    room = draw_below(8) == 0 ? draw_below(96 * n) : 96 * n + draw_below(200);
+    number = check_page(p.name, &p, draw_below(8), room);
+    t.numbers[number]++;
+    if (number == MOVER_OK) count_printed(&p, &t);
+  }
+  for (k = 0; k < 11; k++) expect(t.numbers[k] > 10, "every number", "of pages", (unsigned)k);
+  for (k = 0; k < 3; k++)
+    expect(t.imbalance[k] > 3000 && t.potential[k] > 300, "every sign", "of figures", (unsigned)k);
+  expect(t.returns > 1000 && t.roots > 1000, "returns from a subtree, and any roots,", "returns", t.returns);
+}
+
+/* The comparison is to notice this page in the place of the right one. */
+static void expect_noticed(const char *what, unsigned which, const uint8_t *page) {
+  static outcome w;
+  w.number = MOVER_OK;
+  memcpy(lend_buffer(&w, 3), page, sizeof page_middle - 1);
+  w.length = sizeof page_middle - 1;
+  expect(wrong_in(&w, MOVER_OK, page_middle, sizeof page_middle - 1) != NULL, what, "noticed", which);
+}
+
+/* Pages printed otherwise than the header says. */
+static void check_wrong_pages(void) {
+  static const slips wrong[4] = {
+      {true, false, false, 0}, {false, true, false, 0}, {false, false, true, 0}, {false, false, false, 1}};
+  uint8_t page[sizeof page_middle - 1], line[96];
+  figures f;
+  size_t i, j;
+  find_figures(&middle, &f);
+  for (i = 0; i < 4; i++) {
+    expect(build_page(&middle, &f, &wrong[i], page) == sizeof page, "a wrong page", "length", (unsigned)i);
+    expect_noticed("a page printed otherwise", (unsigned)i, page);
+  }
+  for (i = 0; i < 5; i++)
+    for (j = 0; j < i; j++) {
+      memcpy(page, page_middle, sizeof page);
+      memcpy(line, page + 96 * i, 96);
+      memcpy(page + 96 * i, page + 96 * j, 96);
+      expect_noticed("a line twice", (unsigned)(5 * i + j), page);
+      memcpy(page + 96 * j, line, 96);
+      expect_noticed("two lines exchanged", (unsigned)(5 * i + j), page);
+    }
+}
+
+/* A right answer, spoiled on purpose: each bit of the page and of the bytes round it, the length, the number, a rest
+ * that is cleared, and a refusal that wrote. */
+static void check_spoiled_pages(void) {
+  enum { LENGTH = sizeof page_middle - 1 };
+  static outcome w;
+  uint8_t *bytes = (uint8_t *)w.block.block;
+  size_t i;
+  w.number = write_page(&middle, lend_buffer(&w, 3), ROOM - 3, &w.length);
+  expect(wrong_in(&w, MOVER_OK, page_middle, LENGTH) == NULL, "a right page", middle.name, 0);
+  for (i = 0; i < 8 * (GUARD + 3 + LENGTH + GUARD); i++) {
+    bytes[i / 8] ^= (uint8_t)(1 << i % 8);
+    expect(wrong_in(&w, MOVER_OK, page_middle, LENGTH) != NULL, "a spoiled bit", "at", (unsigned)i);
+    bytes[i / 8] ^= (uint8_t)(1 << i % 8);
+  }
+  for (w.number = 1; w.number < 11; w.number++)
+    expect(wrong_in(&w, MOVER_OK, page_middle, LENGTH) != NULL, "another number", "is", w.number);
+  w.number = MOVER_OK;
+  for (i = 0; i < LENGTH; i += 96) {
+    w.length = i;
+    expect(wrong_in(&w, MOVER_OK, page_middle, LENGTH) != NULL, "another length", "is", (unsigned)i);
+  }
+  w.length = LENGTH;
+  memset(bytes + GUARD + 3 + LENGTH, ' ', ROOM - 3 - LENGTH);
+  expect(wrong_in(&w, MOVER_OK, page_middle, LENGTH) != NULL, "a rest cleared", middle.name, 0);
+  w.number = write_page(&middle, lend_buffer(&w, 3), LENGTH - 1, &w.length);
+  expect(wrong_in(&w, 2, page_middle, 0) == NULL, "a right refusal", "by", 2);
+  expect(wrong_in(&w, 3, page_middle, 0) != NULL, "another refusal", "by", 3);
+  for (i = 0; i < LENGTH; i++) {
+    bytes[GUARD + 3 + i] ^= 1;
+    expect(wrong_in(&w, 2, page_middle, 0) != NULL, "a refusal that wrote", "at", (unsigned)i);
+    bytes[GUARD + 3 + i] ^= 1;
+  }
+  w.length = LENGTH;
+  expect(wrong_in(&w, 2, page_middle, 0) != NULL, "a refusal with a length", "of", LENGTH);
+}
+
+static void check_pages(void) {
+  check_told_pages();
+  check_paged_problems();
+  check_shapes();
+  check_largest();
+  check_page_changes();
+  check_two_page_changes();
+  check_drawn_pages();
+  check_wrong_pages();
+  check_spoiled_pages();
+}
+
 /* Every number has a text of its own. */
 static void check_texts(void) {
   const char *none = mover_refusal_text(UINT32_MAX);
@@ -3140,6 +3836,13 @@ static uint32_t call_is_optimal(void) {
   return mover_is_optimal(64, patch.a, 512, patch.b, 512, patch.lengths, 512, patch.mu, 64, patch.nu, 64, 0, patch.parents, 64, &optimal);
 }
 
+static uint32_t call_write_page(void) {
+  static uint8_t page[MOVER_PAGE_MAX];
+  size_t length;
+  return mover_write_page(64, patch.a, 512, patch.b, 512, patch.lengths, 512, patch.mu, 64, patch.nu, 64, 0, patch.parents, 64, page,
+                          sizeof page, &length);
+}
+
 static uint32_t call_solve(void) {
   uint64_t cost;
   uint32_t moves;
@@ -3219,6 +3922,7 @@ static const struct use {
     {"mover_distances_of_records", call_records, MOVER_STACK_DISTANCES_OF_RECORDS},
     {"mover_evaluate", call_evaluate, MOVER_STACK_EVALUATE},
     {"mover_is_optimal", call_is_optimal, MOVER_STACK_IS_OPTIMAL},
+    {"mover_write_page", call_write_page, MOVER_STACK_WRITE_PAGE},
     {"mover_solve", call_solve, MOVER_STACK_SOLVE},
     {"mover_mark_ancestors", call_mark_ancestors, MOVER_STACK_MARK_ANCESTORS},
     {"mover_vertices_within", call_vertices_within, MOVER_STACK_VERTICES_WITHIN},
@@ -3315,7 +4019,7 @@ int main(void) {
       {"the reader", check_reader},                      {"the entry", check_run},                   {"the writer of images", check_writer},
       {"the rewriter", check_rewriter},                  {"trees", check_trees},                     {"climbs", check_climbs},
       {"weights", check_weights},                        {"brushes", check_brushes},                 {"reports", check_reports},
-      {"texts", check_texts},                            {"stack", check_stack},
+      {"pages", check_pages},                            {"texts", check_texts},                     {"stack", check_stack},
   };
   unsigned passed = 0, failed = 0;
   size_t k;

@@ -1,6 +1,6 @@
-/* Every call on one patch: distances, the best answer, a given tree and whether it is best, the tree's methods, climbs up it, the same
- * by an image, which is written, rewritten, read and run, a report on three images, a painting as weights, a brush with and without a
- * seam, and a refusal. */
+/* Every call on one patch: distances, the best answer, a given tree and whether it is best, each with its page, the tree's methods, climbs
+ * up it, the same by an image, which is written, rewritten, read and run, a report on three images, a painting as weights, a brush with
+ * and without a seam, and a refusal. */
 #include "mover.h"
 
 #include <inttypes.h>
@@ -61,6 +61,17 @@ static void judge(const uint64_t *mu, const uint64_t *nu, const uint32_t *parent
     printf("  %s\n", optimal ? "no tree costs less" : "some tree costs less");
 }
 
+/* The page of the tree with root 0 and these parents: a line for each vertex, by depth, with its imbalance and its potential. */
+static void print_page(const uint64_t *mu, const uint64_t *nu, const uint32_t *parents) {
+  uint8_t page[MOVER_PAGE_SIZE(N)];
+  size_t length;
+  uint32_t number = mover_write_page(N, a, M, b, M, lengths, M, mu, N, nu, N, 0, parents, N, page, sizeof page, &length);
+  if (number != MOVER_OK)
+    refused(number);
+  else
+    fwrite(page, 1, length, stdout);
+}
+
 static void best(const uint64_t *mu, const uint64_t *nu) {
   uint32_t parents[N], plan[N * N], moves, number;
   int32_t potential[N];
@@ -78,6 +89,7 @@ static void best(const uint64_t *mu, const uint64_t *nu) {
   printf("\n");
   print_moves(plan);
   judge(mu, nu, parents);
+  print_page(mu, nu, parents);
 }
 
 static void given_tree(void) {
@@ -98,6 +110,7 @@ static void given_tree(void) {
   printf("\n");
   print_moves(plan);
   judge(before, after, chain);
+  print_page(before, after, chain);
 }
 
 static void methods(void) {

@@ -4,7 +4,8 @@
  * joins welded vertices.
  * Two measures (paintings) of equal total, at most 16,777,216, put an amount on each vertex: mu before,
  * nu after. A plan says how much goes from which vertex to which; its cost is the sum of amount times
- * distance. The library finds a cheapest plan, or evaluates the plan of a spanning tree that is given.
+ * distance. The library finds a cheapest plan, or evaluates the plan of a spanning tree that is given. One
+ * call prints such a tree as a page of text, a line for each vertex.
  * Amounts are whole numbers of grains. Weights as paint tools hold them, floats from 0 to 1, become amounts
  * and amounts weights by calls of their own.
  * An image holds a graph, two measures and, if there is one, a tree in bytes. Calls write, read and rewrite
@@ -45,7 +46,7 @@
 #include <stddef.h>
 #include <stdint.h>
 
-#define MOVER_VERSION 302 /* 0.3.2: major * 10000 + minor * 100 + patch */
+#define MOVER_VERSION 303 /* 0.3.3: major * 10000 + minor * 100 + patch */
 
 #define MOVER_MAX_VERTICES 64
 #define MOVER_MAX_EDGES 512
@@ -62,6 +63,7 @@
 #define MOVER_STACK_DISTANCES_OF_RECORDS 20480
 #define MOVER_STACK_EVALUATE 16384
 #define MOVER_STACK_IS_OPTIMAL 32768
+#define MOVER_STACK_WRITE_PAGE 28672
 #define MOVER_STACK_SOLVE 16384
 #define MOVER_STACK_MARK_ANCESTORS 8192
 #define MOVER_STACK_VERTICES_WITHIN 16384
@@ -88,8 +90,8 @@ enum {
   MOVER_REFUSED_VERTEX_COUNT = 1,        /* n is 0 or above 64 */
   MOVER_REFUSED_TABLE_SIZE = 2,          /* there are more than 512 edges, the edge lists are unequal in
                                             length, a painting (mu, nu, amounts) or given parents are not n
-                                            long, or an answer table, a tally too, or the buffer for a record
-                                            or an image is too short */
+                                            long, or an answer table, a tally too, or the buffer for a record,
+                                            an image or a page is too short */
   MOVER_REFUSED_EDGE_ORDER = 3,          /* an edge has b >= n or a >= b, or is not after its forerunner */
   MOVER_REFUSED_EDGE_LENGTH = 4,         /* a length is above 65,535: no image gives this */
   MOVER_REFUSED_NOT_CONNECTED = 5,       /* some vertex cannot be reached from vertex 0 */
@@ -184,6 +186,34 @@ uint32_t mover_is_optimal(size_t n, const uint32_t *a, size_t a_len, const uint3
                           const uint32_t *lengths, size_t lengths_len, const uint64_t *mu, size_t mu_len,
                           const uint64_t *nu, size_t nu_len, size_t root, const uint32_t *parents,
                           size_t parents_len, uint32_t *optimal);
+
+/* Writes a page: a given tree as text, one line for each vertex. mu, nu and parents are n long.
+ *
+ *   buffer     at least MOVER_PAGE_SIZE(n) bytes; MOVER_PAGE_MAX are always enough
+ *   length     the bytes filled: MOVER_PAGE_SIZE(n)
+ *
+ * The root's line comes first. The line of a vertex is followed by those of its children, by rising number,
+ * each child with its whole subtree before the following child. A line has MOVER_PAGE_LINE bytes of ASCII;
+ * their columns count from 0.
+ *
+ *   0 to 67    as many spaces as the vertex has depth (edges up to the root), its number in two digits, 00
+ *              to 63, and spaces up to column 68
+ *   68 to 78   its imbalance, as mover_evaluate gives it
+ *   79 to 89   its potential, as mover_evaluate gives it
+ *   90 to 94   spaces
+ *   95         a newline (10)
+ *
+ * Imbalance and potential are decimal and right-aligned with spaces before them, without leading zeros or a
+ * plus sign, a minus sign straight before the digits. No byte 0 is written. Refuses by 1 to 10, and then
+ * `length` is 0. */
+uint32_t mover_write_page(size_t n, const uint32_t *a, size_t a_len, const uint32_t *b, size_t b_len,
+                          const uint32_t *lengths, size_t lengths_len, const uint64_t *mu, size_t mu_len,
+                          const uint64_t *nu, size_t nu_len, size_t root, const uint32_t *parents,
+                          size_t parents_len, uint8_t *buffer, size_t buffer_len, size_t *length);
+
+#define MOVER_PAGE_LINE 96
+#define MOVER_PAGE_SIZE(n) (MOVER_PAGE_LINE * (size_t)(n))
+#define MOVER_PAGE_MAX 6144 /* MOVER_PAGE_SIZE(64): enough for every page */
 
 /* The best answer. mu and nu are n long.
  *

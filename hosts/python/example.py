@@ -63,6 +63,8 @@ def main() -> None:
     own = weight_mover.evaluate(edges, mu, nu, root, parents)
     print(f"another tree costs {own.cost / GRAINS / 100:.2f}")
     print(f"  is it best? {weight_mover.is_optimal(edges, mu, nu, root, parents)}")
+    print("its vertices, with imbalance in grains and potential in 1/100 mm:")
+    print(weight_mover.write_page(edges, mu, nu, root, parents), end="")
 
     # Floats are weights as paint tools hold them: whole grains, and 1 in all at most.
     before, after = [0.75, 0.25] + 7 * [0.0], 7 * [0.0] + [0.5, 0.5]

@@ -1,5 +1,5 @@
-"""What the tests hold the library to: definitions written out, images and reels built
-byte for byte, and random patches."""
+"""What the tests hold the library to: definitions written out, images, reels and
+pages built byte for byte, and random patches."""
 
 import random
 import struct
@@ -466,6 +466,89 @@ def report(reel: bytes, places: int = 24) -> Tuple[int, Any]:
     return 0, sheet_of([answer_to(image) for image in images_of(reel)])
 
 
+# ---- Pages
+
+
+class PageCall(NamedTuple):
+    """What a page is asked with; the edges as they stand. So many bytes are lent."""
+
+    n: int
+    edges: List[Edge]
+    mu: List[int]
+    nu: List[int]
+    root: int
+    parents: List[int]
+    places: int
+
+
+def preorder(root: int, parents: List[int]) -> List[Tuple[int, int]]:
+    """Each vertex with its depth, and behind it its children by rising number, each
+    with its whole subtree."""
+    order, waiting = [], [(root, 0)]
+    while waiting:
+        x, depth = waiting.pop()
+        order.append((x, depth))
+        children = [y for y, parent in enumerate(parents) if parent == x != y]
+        waiting += [(y, depth + 1) for y in reversed(children)]
+    return order
+
+
+def line_of(x: int, depth: int, imbalance: int, potential: int) -> str:
+    """A line of a page, from what stands in it and the columns where that ends."""
+    line = 95 * " " + "\n"
+    for end, text in (
+        (depth + 2, f"{x:02}"),
+        (79, str(imbalance)),
+        (90, str(potential)),
+    ):
+        line = line[: end - len(text)] + text + line[end:]
+    return line
+
+
+def page_of(problem: Problem, root: int, parents: List[int]) -> str:
+    """The page of a tree."""
+    weighed = weigh(problem, parents)
+    lines = [
+        line_of(x, depth, weighed.imbalance[x], weighed.potential[x])
+        for x, depth in preorder(root, parents)
+    ]
+    return "".join(lines)
+
+
+def meets(root: int, parents: List[int], x: int) -> bool:
+    """Whether the root is met going from x up, wherever the parents lead."""
+    for _ in parents:
+        if x == root or x >= len(parents):
+            break
+        x = parents[x]
+    return x == root
+
+
+def failing_page(given: PageCall) -> List[int]:
+    """The checks of a page that fail, in their order."""
+    n, edges, mu, nu, root, parents, places = given
+    near = {ends for a, b, _ in edges for ends in ((a, b), (b, a))}
+    numbers = {k for part in (mu, nu) for k in failing(n, edges, 0, part)} - {17}
+    fails = {
+        2: len(parents) != n or places < 96 * n,
+        7: sum(mu) != sum(nu),
+        8: max([root, *parents]) >= n
+        or [x for x, parent in enumerate(parents) if x == parent] != [root],
+        9: any(way not in near for way in enumerate(parents) if way[0] != root),
+        10: not all(meets(root, parents, x) for x in range(len(parents))),
+    }
+    return sorted(numbers | {number for number, failed in fails.items() if failed})
+
+
+def tree_page(given: PageCall) -> Tuple[int, str]:
+    """The number that refuses a page, 0 if none does, and the page."""
+    numbers = failing_page(given)
+    if numbers:
+        return numbers[0], ""
+    _, edges, mu, nu, root, parents, _ = given
+    return 0, page_of(Problem(edges, mu, nu), root, parents)
+
+
 # ---- Random patches
 
 
@@ -545,14 +628,20 @@ def random_query(draw: random.Random) -> Query:
     return Query(n, in_order(problem.edges), start, reach, painting)
 
 
+def up_to_three(draw: random.Random, numbers: List[int]) -> List[int]:
+    """Some of the numbers in their order, often those next to each other."""
+    count, size = draw.choice([0, 1, 1, 2, 2, 3]), len(numbers)
+    place = draw.randrange(size + 1 - count)
+    some = sorted(draw.sample(range(size), count))
+    next_to = numbers[place : place + count]
+    return draw.choice([next_to, [numbers[k] for k in some]])
+
+
 def faulty(draw: random.Random, query: Query) -> Query:
     """The query with up to three faults, often of checks next to each other. On some
     patches some of them are none."""
     n, edges, start, reach, painting = query
-    numbers, count = [17, 6, 5, 4, 3, 2, 1], draw.choice([0, 1, 1, 2, 2, 3])
-    place, some = draw.randrange(8 - count), sorted(draw.sample(range(7), count))
-    next_to = numbers[place : place + count]
-    for number in draw.choice([next_to, [numbers[k] for k in some]]):
+    for number in up_to_three(draw, [17, 6, 5, 4, 3, 2, 1]):
         if number == 1:
             n = draw.choice([0, 65, 2**32 + n, 2**64 - 1])
         elif number == 2 and draw.random() < 0.5:
@@ -952,3 +1041,73 @@ def damaged_reel(draw: random.Random, reel: bytes) -> bytes:
         ends = [2 + 8 * len(pairs), draw.randint(0, size), *map(sum, pairs)]
         return wrong[: draw.choice(ends) - draw.choice([0, 0, 1])]
     return bytes(draw.randrange(4)) if kind == 3 else wrong
+
+
+# ---- Random pages
+
+
+def random_page(draw: random.Random) -> Tuple[Problem, int, List[int]]:
+    """A problem with a tree under any root; at times a path of 64 vertices, numbered at
+    random, from one of its ends."""
+    if draw.random() < 0.9:
+        problem = random_problem(draw)
+        return (problem, *random_tree(draw, problem))
+    way = draw.sample(range(64), 64)
+    edges = [(a, b, draw.randint(0, 65_535)) for a, b in zip(way, way[1:])]
+    paintings = [random_painting(draw, 64, 2**24) for _ in range(2)]
+    return Problem(edges, *paintings), way[0], hang(64, list(zip(way, way[1:])), way[0])
+
+
+def page_call(
+    draw: random.Random, problem: Problem, root: int, parents: List[int]
+) -> PageCall:
+    """A buffer as long as the page, or longer."""
+    size = 96 * problem.n
+    places = draw.choice([size, size, size + 1, size + 96, draw.randint(size, 10_000)])
+    edges = in_order(problem.edges)
+    return PageCall(problem.n, edges, *problem[1:], root, parents, places)
+
+
+def faulty_page(draw: random.Random, given: PageCall) -> PageCall:
+    """With up to three faults, often of checks next to each other. On some patches some
+    of them are none."""
+    for number in up_to_three(draw, list(range(10, 0, -1))):
+        problem = Problem(given.edges, given.mu, given.nu)
+        part = draw.choice(["mu", "nu"])
+        painting = getattr(given, part)
+        if number == 1:
+            n = draw.choice([0, 65, 2**32 + given.n, 2**64 - 1])
+            given = given._replace(n=n)
+        elif number == 2:
+            given = wrong_size(draw, given)
+        elif number == 6:
+            given = given._replace(**{part: large_painting(draw, painting)})
+        elif number == 7:
+            given = given._replace(**{part: other_total(draw, painting)})
+        elif number >= 8:
+            tree = faulty_tree(draw, number, problem, given.root, given.parents)
+            given = given._replace(root=tree[0], parents=tree[1])
+        else:
+            edges = faulty_edges(draw, number, given.n, given.edges)
+            given = given._replace(edges=edges)
+    return given
+
+
+def other_total(draw: random.Random, painting: List[int]) -> List[int]:
+    """The painting with a grain less, or of none with one."""
+    positive = [x for x, amount in enumerate(painting) if amount > 0]
+    x = draw.choice(positive or range(len(painting)))
+    return painting[:x] + [painting[x] - 1 if positive else 1] + painting[x + 1 :]
+
+
+def wrong_size(draw: random.Random, given: PageCall) -> PageCall:
+    """A buffer that is too short, a list that is not n long, or too many edges."""
+    kind, size = draw.randrange(6), 96 * given.n
+    if kind == 0:
+        return given._replace(edges=given.edges + 513 * given.edges[-1:])
+    if kind in (1, 2):
+        part = draw.choice(["mu", "nu", "parents"])
+        numbers = getattr(given, part)
+        return given._replace(**{part: draw.choice([numbers[1:], numbers + [0]])})
+    places = draw.choice([0, size - 96, size - 1, size - 1, draw.randrange(size)])
+    return given._replace(places=places)

@@ -1,13 +1,13 @@
 """Tests of the Python module: marked cases, refusals, inputs, random patches, queries,
-images, reels, weights.
+images, reels, pages, weights.
 
     python3 test_weight_mover.py
 
 Answers on random patches are held to the definitions, which reference.py writes out,
 and, where networkx is installed, to its network simplex and shortest paths; images to
-those that reference.py builds, reels to its own answers for their images, and weights
-to exact fractions. MOVER_CASES sets the number of patches, at least 200, and MOVER_SEED
-repeats a run. The last line is "N passed, M failed".
+those that reference.py builds, reels to its own answers for their images, pages to its
+own lines, and weights to exact fractions. MOVER_CASES sets the number of patches, at
+least 200, and MOVER_SEED repeats a run. The last line is "N passed, M failed".
 """
 
 import array
@@ -35,6 +35,7 @@ from typing import (
     Any,
     Callable,
     Dict,
+    Iterable,
     Iterator,
     List,
     NamedTuple,
@@ -49,6 +50,7 @@ import weight_mover as wm
 from reference import (
     NUMBERS,
     Contents,
+    PageCall,
     Problem,
     answer_to,
     as_weights,
@@ -59,8 +61,10 @@ from reference import (
     directory_end,
     entries,
     failing,
+    failing_page,
     faults,
     faulty,
+    faulty_page,
     fitting_contents,
     image_of,
     images_of,
@@ -69,13 +73,18 @@ from reference import (
     in_place,
     least_cost,
     lengths_from,
+    line_of,
     marked,
     moves,
     nearest,
+    page_call,
+    page_of,
     pairs_in,
+    preorder,
     random_amounts,
     random_double,
     random_image,
+    random_page,
     random_problem,
     random_query,
     random_reel,
@@ -92,6 +101,7 @@ from reference import (
     spread,
     swapped,
     tree_figures,
+    tree_page,
     weigh,
     with_gaps,
     with_pairs,
@@ -227,6 +237,45 @@ def ask_report(reel: bytes, places: int) -> Left:
     for part in lent:
         assert (part[0], part[2]) == (7, 9), "a place next to a result changed"
     return number, list(tally), [part[1] for part in lent]
+
+
+# What a page leaves: its number, the buffer and the length.
+PageLeft = Tuple[int, bytes, int]
+
+
+def lent_bytes(places: int) -> bytes:
+    """The buffer that the call is lent, of bytes that no page has."""
+    return bytes(128 + k % 127 for k in range(places))
+
+
+def page_left(number: int, page: str, lent: bytes) -> PageLeft:
+    """What a page leaves that was lent a buffer; a refused page is empty."""
+    new = page.encode("ascii")
+    return number, new + lent[len(new) :], len(new)
+
+
+def page_tables(given: PageCall) -> List[Any]:
+    """What mover_write_page takes before its buffer."""
+    mu, nu = ((ctypes.c_uint64 * len(part))(*part) for part in (given.mu, given.nu))
+    parents = (ctypes.c_uint32 * len(given.parents))(*given.parents)
+    return [given.n, *edge_tables(given.edges), mu, nu, given.root, parents]
+
+
+def ask_page(tables: List[Any], places: int) -> PageLeft:
+    """What the call leaves; the length was 8. The tables, and what is next to the
+    length and to the buffer, which is at an odd address, stay as they were."""
+    memory = bytearray(b"<" + lent_bytes(places) + b">")
+    buffer: Any = (ctypes.c_uint8 * places).from_buffer(memory, 1)
+    lent = (ctypes.c_size_t * 3)(7, 8, 9)
+    size = ctypes.sizeof(ctypes.c_size_t)
+    length = ctypes.byref(ctypes.c_size_t.from_buffer(lent, size))
+    given = [table for table in tables if isinstance(table, ctypes.Array)]
+    before = [bytes(table) for table in given]
+    number = wm._call("mover_write_page", *tables, buffer, length)
+    assert [bytes(table) for table in given] == before, "a table changed"
+    assert (lent[0], lent[2]) == (7, 9), "a place next to the length changed"
+    assert memory[:1] + memory[-1:] == b"<>", "a byte next to the buffer changed"
+    return number, bytes(buffer), lent[1]
 
 
 # ---- The marked cases
@@ -500,6 +549,116 @@ def reels_of(images: List[bytes]) -> List[bytes]:
     return [reel_of(images, gaps) for gaps in forms]
 
 
+# A tree of two branches, and its page written by hand. The edge from 5 to 0 carries
+# nothing.
+BRANCHES = Problem(
+    [(0, 2, 10), (0, 5, 65_535), (1, 4, 200), (2, 4, 7), (3, 4, 30), (5, 6, 4)],
+    [0, 0, 1, 120, 0, 0, 5],
+    [12, 100, 1, 0, 8, 5, 0],
+)
+UP_THE_BRANCHES = [2, 4, 2, 4, 2, 0, 5]
+PAGE = (
+    "02                                                                  "
+    "          0          0     \n"
+    " 00                                                                 "
+    "        -12        -10     \n"
+    "  05                                                                "
+    "          0        -10     \n"
+    "   06                                                               "
+    "          5         -6     \n"
+    " 04                                                                 "
+    "         12          7     \n"
+    "  01                                                                "
+    "       -100       -193     \n"
+    "  03                                                                "
+    "        120         37     \n"
+)
+
+# The marked cases' vertices in the order of their pages, with their depths.
+ORDERS = {
+    "A": [(3, 0), (2, 1), (1, 2), (0, 3)],
+    "B": [(0, 0), (1, 1), (2, 2), (3, 3)],
+    "C": [(0, 0), (1, 1), (2, 2), (3, 3)],
+    "D": [(0, 0), (1, 1), (2, 1)],
+    "E": [(0, 0)],
+    "F": [(0, 0), (1, 1)],
+    "G": [(5, 0), (4, 1), (3, 2), (2, 3), (1, 4), (0, 5)],
+    "H": [(0, 0), (1, 1), (2, 2), (3, 3), (4, 4), (5, 5)],
+    "own potential": [(0, 0), (1, 1), (2, 2)],
+    "seam": [(0, 0), (1, 1), (2, 2), (3, 3)],
+}
+
+
+def printed(lines: Iterable[Tuple[int, int, int, int]]) -> str:
+    """A page from the number, depth, imbalance and potential of each line."""
+    return "".join(
+        "%-68s%11d%11d     \n" % (depth * " " + "%02d" % x, imbalance, potential)
+        for x, depth, imbalance, potential in lines
+    )
+
+
+# Vertex 0 gives each other one a grain, along a path of 64 and in a star; in another
+# star the last gets a grain of each.
+ONE_EACH = [63] + 63 * [0], [0] + 63 * [1]
+PATH_OF_64 = Problem([(x, x + 1, 3) for x in range(63)], *ONE_EACH)
+STAR = Problem([(0, x, x) for x in range(1, 64)], *ONE_EACH)
+TO_THE_LAST = Problem([(x, 63, 1) for x in range(63)], 63 * [1] + [0], 63 * [0] + [63])
+
+# Problems, roots, parents and pages.
+PAGES: List[Tuple[Problem, int, List[int], str]] = [
+    (BRANCHES, 2, UP_THE_BRANCHES, PAGE),
+    (Problem([], [7], [7]), 0, [0], "00" + 76 * " " + "0" + 10 * " " + "0     \n"),
+    *(
+        (
+            case.problem, case.root, case.parents,
+            printed(
+                (x, depth, case.imbalance[x], case.potential[x])
+                for x, depth in ORDERS[name]
+            ),
+        )
+        for name, case in MARKED.items()
+    ),
+    (
+        PATH_OF_64, 0, [0, *range(63)],
+        printed((x, x, x - 64 if x > 0 else 0, -3 * x) for x in range(64)),
+    ),
+    (
+        PATH_OF_64, 63, [*range(1, 64), 63],
+        printed((63 - k, k, k, 3 * k) for k in range(64)),
+    ),
+    (
+        PATH_OF_64, 32, [*range(1, 33), 32, *range(32, 63)],
+        printed([
+            (32, 0, 0, 0),
+            *((32 - k, k, 31 + k, 3 * k) for k in range(1, 33)),
+            *((32 + k, k, k - 32, -3 * k) for k in range(1, 32)),
+        ]),
+    ),
+    (STAR, 0, 64 * [0], printed((x, min(x, 1), -min(x, 1), -x) for x in range(64))),
+    (
+        STAR, 5, [5, 0, 0, 0, 0, 5] + 58 * [0],
+        printed([
+            (5, 0, 0, 0),
+            (0, 1, 1, 5),
+            *((x, 2, -1, 5 - x) for x in range(1, 64) if x != 5),
+        ]),
+    ),
+    (
+        TO_THE_LAST, 63, 64 * [63],
+        printed([(63, 0, 0, 0), *((x, 1, 1, 1) for x in range(63))]),
+    ),
+    # the largest figures, of both signs
+    (
+        Problem(*ENDS), 0, UP_THE_LINE,
+        printed((x, k, -FULL * (k > 0), -k * FAR) for k, x in enumerate(TO_AND_FRO)),
+    ),
+    (
+        Problem(ENDS[0], ENDS[2], ENDS[1]), 0, UP_THE_LINE,
+        printed((x, k, FULL * (k > 0), k * FAR) for k, x in enumerate(TO_AND_FRO)),
+    ),
+]  # fmt: skip
+
+
 class MarkedCases(unittest.TestCase):
     """Cases A to H and two more through each call."""
 
@@ -729,6 +888,28 @@ class MarkedCases(unittest.TestCase):
             self.assertEqual(reel, reel_of(images))
             self.assertEqual(images_of(reel), images)
 
+    def test_write_page(self) -> None:
+        for problem, root, parents, wanted in PAGES:
+            name, size = (problem, root, parents), 96 * problem.n
+            page = wm.write_page(*problem, root, parents)
+            self.assertEqual(page, wanted, name)
+            self.assertIs(type(page), str)
+            weights = [[x * GRAIN for x in part] for part in (problem.mu, problem.nu)]
+            again = wm.write_page(problem.edges[::-1], *weights, root, parents)
+            self.assertEqual(again, wanted, name)
+            for places in (size, size + 1, size + 96, 10_000):
+                given = PageCall(problem.n, *problem, root, parents, places)
+                found = ask_page(page_tables(given), places)
+                self.assertEqual(found, page_left(0, wanted, lent_bytes(places)), name)
+
+    def test_figures_of_pages(self) -> None:
+        """The pages by hand have the figures there are at most."""
+        lines = [line for *_, page in PAGES for line in page.splitlines()]
+        for start, end, most in ((68, 79, FULL), (79, 90, 63 * FAR)):
+            figures = [int(line[start:end]) for line in lines]
+            self.assertEqual((min(figures), max(figures)), (-most, most))
+        self.assertEqual(max(len(line) - len(line.lstrip()) for line in lines), 63)
+
 
 # ---- Refusals
 
@@ -764,6 +945,7 @@ class Refusals(unittest.TestCase):
         given = tree or (0, [max(x - 1, 0) for x in range(len(mu))])
         self.refused(number, wm.evaluate, edges, mu, nu, *given)
         self.refused(number, wm.is_optimal, edges, mu, nu, *given)
+        self.refused(number, wm.write_page, edges, mu, nu, *given)
         image = image_of(in_order(edges), mu, nu, *given)
         without = image_of(in_order(edges), mu, nu)
         self.refused(number, wm.run, image)
@@ -809,7 +991,7 @@ class Refusals(unittest.TestCase):
     def test_2_table_size(self) -> None:
         self.refused(2, wm.solve, PATH, [1, 0, 0], [0, 1])
         self.refused(2, wm.solve, PATH, [1, 0], [0, 0, 1])
-        for call in (wm.evaluate, wm.is_optimal):
+        for call in (wm.evaluate, wm.is_optimal, wm.write_page):
             self.refused(2, call, PATH, [1, 0, 0], [0, 1], 0, [0, 0, 1])
             self.refused(2, call, PATH, [1, 0, 0], [0, 0, 1], 0, [0, 0])
             self.refused(2, call, PATH, [1, 0, 0], [0, 0, 1], 0, [0, 0, 1, 2])
@@ -819,6 +1001,9 @@ class Refusals(unittest.TestCase):
         self.refused(2, wm.distances_of_records, 33, every[:513])
         self.refused(2, wm.solve, every[:513], 33 * [0], 33 * [0])
         paintings = 33 * [0], 33 * [0]
+        self.refused(2, wm.write_page, every[:513], *paintings, 0, 33 * [0])
+        page = wm.write_page(every[:512], *paintings, 0, 33 * [0])
+        self.assertEqual(len(page), 96 * 33)
         for m in (513, 514, 528):
             for call in (wm.run, wm.read, wm.rewrite):
                 self.refused(2, call, image_of(every[:m], *paintings))
@@ -847,6 +1032,7 @@ class Refusals(unittest.TestCase):
         self.refused(4, wm.solve, *long)
         self.refused(4, wm.evaluate, *long, 0, [0, 0])
         self.refused(4, wm.is_optimal, *long, 0, [0, 0])
+        self.refused(4, wm.write_page, *long, 0, [0, 0])
         self.refused(4, wm.distances_of_records, 2, long[0])
         self.refused(13, wm.write, *long)  # an image has two bytes for a length
         self.assertEqual(wm.solve([(0, 1, 65_535)], [1, 0], [0, 1]).cost, 65_535)
@@ -879,6 +1065,7 @@ class Refusals(unittest.TestCase):
         ):  # fmt: skip
             self.by_all(8, *two, root, parents)
         self.refused(8, wm.evaluate, *two, 2**64 - 1, [0, 2**32 - 1])
+        self.refused(8, wm.write_page, *two, 2**64 - 1, [0, 2**32 - 1])
 
     def test_9_tree_edges(self) -> None:
         self.by_all(9, PATH, [1, 0, 0], [0, 0, 1], 0, [0, 0, 0])
@@ -945,15 +1132,16 @@ class Refusals(unittest.TestCase):
 
     def test_order(self) -> None:
         """The first check that fails gives the number."""
-        self.refused(1, wm.evaluate, [(0, 0, 0)], [], [3], 9, [])
-        self.refused(2, wm.evaluate, [(0, 0, 0)], [1], [3, 4], 9, [5])
-        self.refused(3, wm.evaluate, [(0, 0, 0)], [1], [3], 9, [5])
-        self.refused(4, wm.evaluate, [(0, 1, 65_536)], [FULL, 1, 0], 3 * [0], 9, 3 * [5])
-        self.refused(5, wm.evaluate, [(0, 1, 1)], [FULL, 1, 0], 3 * [0], 9, 3 * [5])
-        self.refused(6, wm.evaluate, PATH, [FULL, 1, 0], 3 * [0], 9, 3 * [5])
-        self.refused(7, wm.evaluate, PATH, [FULL, 0, 0], 3 * [0], 9, 3 * [5])
-        self.refused(8, wm.evaluate, PATH, 3 * [0], 3 * [0], 9, 3 * [5])
-        self.refused(9, wm.evaluate, PATH, 3 * [0], 3 * [0], 0, [0, 2, 0])
+        for call in (wm.evaluate, wm.write_page):
+            self.refused(1, call, [(0, 0, 0)], [], [3], 9, [])
+            self.refused(2, call, [(0, 0, 0)], [1], [3, 4], 9, [5])
+            self.refused(3, call, [(0, 0, 0)], [1], [3], 9, [5])
+            self.refused(4, call, [(0, 1, 65_536)], [FULL, 1, 0], 3 * [0], 9, 3 * [5])
+            self.refused(5, call, [(0, 1, 1)], [FULL, 1, 0], 3 * [0], 9, 3 * [5])
+            self.refused(6, call, PATH, [FULL, 1, 0], 3 * [0], 9, 3 * [5])
+            self.refused(7, call, PATH, [FULL, 0, 0], 3 * [0], 9, 3 * [5])
+            self.refused(8, call, PATH, 3 * [0], 3 * [0], 9, 3 * [5])
+            self.refused(9, call, PATH, 3 * [0], 3 * [0], 0, [0, 2, 0])
 
     def test_order_of_writing(self) -> None:
         """1, 2 and 13 in this order. Without parents the root is not looked at."""
@@ -1206,6 +1394,7 @@ class Refusals(unittest.TestCase):
             self.refused(number, wm.solve, *given)
             self.refused(number, wm.evaluate, *given, 0, [])
             self.refused(number, wm.is_optimal, *given, 0, [])
+            self.refused(number, wm.write_page, *given, 0, [])
             self.refused(number, wm.write, *given)
         self.refused(number, wm.nearest_vertex, [], 0, painting)
         self.refused(number, wm.nearest_vertex, [(0, 0, 0)], 9, painting)
@@ -1360,6 +1549,107 @@ class Refusals(unittest.TestCase):
         self.assertEqual(caught.exception.text, text)
         self.assertEqual(str(caught.exception), f"refused 14: {text}")
 
+    def paged(self, number: int, given: PageCall) -> None:
+        """A page that is refused by the number, or not if it is 0: by the call, and by
+        the module where that gives the same."""
+        right, page = tree_page(given)
+        self.assertEqual(right, number, given)
+        found = ask_page(page_tables(given), given.places)
+        wanted = page_left(number, page, lent_bytes(given.places))
+        self.assertEqual(found, wanted, given)
+        n, edges, *rest, places = given
+        if n == len(given.mu) and edges == in_order(edges) and places >= 96 * n:
+            got = outcome(wm.write_page, edges, *rest)
+            self.assertEqual(got, (number, page if number == 0 else []), given)
+
+    def test_pages(self) -> None:
+        """Pages are refused by 1 to 10, in this order, into any buffer; one that is too
+        short is 2. What is refused is kept as lent, and its length is 0."""
+        every = [(a, b, 1) for a in range(33) for b in range(a + 1, 33)]
+        square = [(0, 1, 1), (0, 2, 1), (0, 3, 1), (1, 2, 1), (2, 3, 1)]
+        along = [0, 0, 1]
+        away, home = [1, 0, 0], [0, 0, 1]
+        refused: List[Tuple[Any, ...]] = [
+            (1, 0, [], [], [], 0, []),
+            (1, 65, [], 65 * [0], 65 * [0], 0, 65 * [0]),
+            (1, 2**32 + 3, PATH, away, home, 0, along),
+            (1, 2**64 - 1, PATH, away, home, 0, along),
+            (2, 33, every[:513], 33 * [0], 33 * [0], 0, 33 * [0]),
+            (2, 3, PATH, away[:2], home, 0, along),
+            (2, 3, PATH, away + [0], home, 0, along),
+            (2, 3, PATH, away, home[1:], 0, along),
+            (2, 3, PATH, away, home + [0], 0, along),
+            (2, 3, PATH, away, home, 0, along[:2]),
+            (2, 3, PATH, away, home, 0, along + [2]),
+            (2, 3, PATH, away, home, 0, []),
+            (3, 3, [(0, 1, 1), (1, 2, 1), (2, 3, 1)], away, home, 0, along),
+            (3, 3, [(0, 1, 1), (2, 1, 1)], away, home, 0, along),
+            (3, 3, [(0, 1, 1), (1, 1, 1), (1, 2, 1)], away, home, 0, along),
+            (3, 3, [(1, 2, 1), (0, 1, 1)], away, home, 0, along),
+            (3, 3, [(0, 1, 1), (0, 1, 2), (1, 2, 1)], away, home, 0, along),
+            (4, 3, [(0, 1, 65_536), (1, 2, 1)], away, home, 0, along),
+            (4, 3, [(0, 1, 1), (0, 2, 2**32 - 1), (1, 2, 1)], away, home, 0, along),
+            (5, 4, square[:2] + square[3:4], 4 * [1], 4 * [1], 0, [0, 0, 0, 0]),
+            (6, 3, PATH, [FULL, 1, 0], [FULL, 0, 1], 0, along),
+            (6, 3, PATH, [2**64 - 1, 2, 0], [0, 0, 1], 0, along),
+            (7, 3, PATH, away, [0, 0, 2], 0, along),
+            (7, 3, PATH, 3 * [0], home, 0, along),
+            (8, 3, PATH, away, home, 3, along),
+            (8, 3, PATH, away, home, 2**64 - 1, along),
+            (8, 3, PATH, away, home, 2**32, along),
+            (8, 3, PATH, away, home, 1, along),
+            (8, 3, PATH, away, home, 0, [0, 0, 3]),
+            (8, 3, PATH, away, home, 0, [0, 0, 2**32 - 1]),
+            (8, 3, PATH, away, home, 0, [0, 0, 2]),
+            (8, 3, PATH, away, home, 0, [1, 0, 1]),
+            (9, 3, PATH, away, home, 0, [0, 0, 0]),
+            (9, 3, PATH, away, home, 2, [2, 2, 2]),
+            (9, 3, PATH, away, home, 0, [0, 2, 0]),
+            (10, 3, PATH, away, home, 0, [0, 2, 1]),
+            (10, 4, square, [1, 0, 0, 0], [0, 1, 0, 0], 1, [3, 1, 0, 2]),
+            # two checks fail
+            (1, 0, every[:513], [], [], 0, []),
+            (1, 65, [(1, 0, 65_536)], [1], [2], 65, [9]),
+            (2, 3, [(0, 3, 1), (1, 2, 1)], away[:2], home, 0, along),
+            (2, 3, 513 * [(0, 3, 65_536)], away, home, 0, along),
+            (3, 3, [(0, 1, 65_536), (2, 1, 1)], away, home, 0, along),
+            (4, 3, [(0, 1, 65_536)], away, home, 0, along),
+            (5, 3, [(0, 1, 1)], [FULL, 1, 0], [FULL, 1, 0], 0, along),
+            (6, 3, PATH, [FULL, 1, 0], home, 0, along),
+            (7, 3, PATH, away, 3 * [0], 1, along),
+            (8, 3, PATH, away, home, 1, [0, 0, 0]),
+            (8, 3, PATH, away, home, 0, [0, 2, 3]),
+            (9, 4, square, [1, 0, 0, 0], [0, 1, 0, 0], 2, [1, 3, 2, 0]),
+        ]
+        for number, n, *given in refused:
+            size = 96 * min(n, 65)
+            for places in (size, size + 1, size + 1000):
+                self.paged(number, PageCall(n, *given, places))
+            for places in {0, 1, 95, size // 2, size - 96, size - 1}:
+                if 0 <= places < size:
+                    self.paged(min(number, 2), PageCall(n, *given, places))
+
+    def test_buffers_of_pages(self) -> None:
+        """Every length of a buffer for a small page, and both sides of others."""
+        for problem, root, parents, wanted in PAGES:
+            size = len(wanted)
+            near = [*range(size - 3, size + 4), 0, size // 2, 95 * problem.n, 6_144]
+            for places in range(2 * size) if problem.n < 3 else near:
+                given = PageCall(problem.n, *problem, root, parents, places)
+                self.paged(0 if places >= size else 2, given)
+
+    def test_lists_of_pages(self) -> None:
+        """Edge lists of unequal length, which the module never gives, are 2."""
+        for place in range(1, 4):
+            for size in (0, 1, 3):
+                given = PageCall(3, PATH, [1, 0, 0], [0, 0, 1], 0, [0, 0, 1], 288)
+                tables = page_tables(given)
+                numbers = (tables[place][:] + [1])[:size]
+                tables[place] = (ctypes.c_uint32 * size)(*numbers)
+                for places in (0, 287, 288, 1000):
+                    wanted = page_left(2, "", lent_bytes(places))
+                    self.assertEqual(ask_page(tables, places), wanted, (place, size))
+
     def test_exception(self) -> None:
         with self.assertRaises(ValueError) as caught:
             wm.solve([], [3], [4])
@@ -1397,6 +1687,7 @@ class Header(unittest.TestCase):
         self.assertEqual(int(numbers["RECORD_MAX"]), wm._RECORD_MAX)
         self.assertEqual(int(numbers["IMAGE_HEADER"]), wm._HEADER)
         self.assertEqual(int(numbers["IMAGE_WRITTEN_MAX"]), wm._WRITTEN_MAX)
+        self.assertEqual(int(numbers["PAGE_LINE"]), wm._LINE)
         major, minor, patch = map(int, wm.__version__.split("."))
         self.assertEqual(int(numbers["VERSION"]), 10_000 * major + 100 * minor + patch)
 
@@ -1443,6 +1734,8 @@ class Inputs(unittest.TestCase):
             got = wm.evaluate(*given, case.root, case.parents)
             self.assertEqual(got.cost, case.cost)
             self.assertFalse(wm.is_optimal(*given, case.root, case.parents))
+            page = wm.write_page(*given, case.root, case.parents)
+            self.assertEqual(page, page_of(case.problem, case.root, case.parents))
             self.assertEqual(wm.distances(4, edges)[0], [0, 1, 2, 1])
             self.assertEqual(wm.vertices_within(4, edges, 3, 1), [0, 2, 3])
             self.assertEqual(wm.nearest_vertex(edges, 3, [1, 1, 1, 0]), 0)
@@ -1614,6 +1907,7 @@ class Inputs(unittest.TestCase):
                     (wm.solve, ()),
                     (wm.evaluate, tree),
                     (wm.is_optimal, tree),
+                    (wm.write_page, tree),
                     (wm.write, ()),
                 ]
                 for call, more in calls:
@@ -1653,6 +1947,12 @@ class Inputs(unittest.TestCase):
             ("parent", lambda x: wm.evaluate(edges, mu, nu, 0, [0, x]), u32),
             ("root", lambda x: wm.is_optimal(edges, mu, nu, x, [0, 0]), u64),
             ("parent", lambda x: wm.is_optimal(edges, mu, nu, 0, [0, x]), u32),
+            ("end", lambda x: wm.write_page([(0, x, 1)], mu, nu, 0, [0, 0]), u32),
+            ("length", lambda x: wm.write_page([(0, 1, x)], mu, nu, 0, [0, 0]), u32),
+            ("mu", lambda x: wm.write_page(edges, [x, 0], nu, 0, [0, 0]), u64),
+            ("nu", lambda x: wm.write_page(edges, mu, [0, x], 0, [0, 0]), u64),
+            ("root", lambda x: wm.write_page(edges, mu, nu, x, [0, 0]), u64),
+            ("parent", lambda x: wm.write_page(edges, mu, nu, 0, [0, x]), u32),
             ("root of a Tree", lambda x: wm.Tree(x, [0, 0]), u64),
             ("parent of a Tree", lambda x: wm.Tree(0, [0, x]), u32),
             ("v", tree.depth, u64),
@@ -1709,6 +2009,10 @@ class Inputs(unittest.TestCase):
             (wm.solve, (two[0], {0: 1, 1: 0}, two[2])),
             (wm.solve, (*two[:2], {0, 1})),
             (wm.evaluate, (*two, 0, {0: 0, 1: 0})),
+            (wm.write_page, (*two, 0, {0: 0, 1: 0})),
+            (wm.write_page, (*two, 0, None)),
+            (wm.write_page, (*two, None, [0, 0])),
+            (wm.write_page, ([(0, 1)], *two[1:], 0, [0, 0])),
             (wm.mark_ancestors, (2, 0, [0, 0], 1, 0)),
             (wm.mark_ancestors, (2, 0, [0, 0], 1, {0: 0, 1: 0})),
             (wm.vertices_within, (2, 5, 0, 1)),
@@ -1751,6 +2055,8 @@ class Inputs(unittest.TestCase):
             self.assertEqual(got, wm.evaluate(*case.problem, 3, case.parents))
             self.assertEqual(wm.solve(columns[::-1], *paintings).cost, case.best)
             self.assertTrue(wm.is_optimal(columns, *paintings, *tree))
+            page = wm.write_page(columns[::-1], *paintings, *tree)
+            self.assertEqual(page, page_of(case.problem, 3, case.parents))
             self.assertEqual(wm.distances(np.int64(4), columns)[0], [0, 2, 5, 6])
             self.assertEqual(wm.distances_of_records(4, columns)[0], [0, 2, 5, 6])
             self.assertEqual(wm.Tree(*tree).depth(parents[0]), 2)
@@ -1860,13 +2166,16 @@ class Surroundings(unittest.TestCase):
         lines = out.getvalue().splitlines()
         self.assertEqual(lines[0], "least cost 19.02, in weight times mm")
         self.assertIn("  vertex 7 gives 1 0.200 over 26.33 mm", lines)
+        place = lines.index("  07" + 72 * " " + "900       2633     ") - 6
+        order = [line.split()[0] for line in lines[place : place + 9]]
+        self.assertEqual(order, ["01", "00", "02", "04", "03", "05", "07", "06", "08"])
         self.assertIn("of a stroke, vertex 0 gives 0.25 to 7 and 0.5 to 8", lines)
         self.assertIn("a brush of 13 mm at vertex 4 covers [1, 3, 4, 5]", lines)
         self.assertIn("the weight nearest to vertex 2 is at 5, 12.57 mm away", lines)
         self.assertIn("of 3 images 2 are accepted", lines)
         self.assertIn("  image 2 costs the most, 31.11", lines)
         self.assertIn("  1 refused by 7: the two totals differ", lines)
-        self.assertEqual(len(lines), 23)
+        self.assertEqual(len(lines), 33)
         self.assertEqual(lines[-1], "refused 7: the two totals differ")
 
     def test_docstring(self) -> None:
@@ -1883,14 +2192,15 @@ class Surroundings(unittest.TestCase):
         self.assertTrue(all(hasattr(wm, name) for name in wm.__all__))
 
     def test_help(self) -> None:
-        """All that can be imported is shown, and reels are told of at the top."""
+        """All that can be imported is shown, and reels and pages are told of at the
+        top."""
         text = pydoc.plain(pydoc.render_doc(wm))
         for name in wm.__all__:
             kind = getattr(wm, name)
             shown = f"class {name}(" if isinstance(kind, type) else f"    {name}("
             self.assertIn(shown if callable(kind) else f"    {name} = ", text)
         self.assertIn(wm.__version__, text)
-        for name in ("reel", "`pack`", "`report`"):
+        for name in ("reel", "`pack`", "`report`", "page", "`write_page`"):
             self.assertIn(name, wm.__doc__)
 
     def test_library_elsewhere(self) -> None:
@@ -2074,6 +2384,54 @@ class ByDefinition(unittest.TestCase):
             self.assertEqual(packed, reel_of(images), name)
             self.assertTrue(in_place(packed), name)
             self.assertEqual(images_of(packed), images, name)
+
+    def test_write_page(self) -> None:
+        """By the module and by the call. The figures are those that `evaluate` and the
+        tree's methods give."""
+        met = dict.fromkeys(["alone", "deep", "wide", "flat", "below 0", "large"], 0)
+        for name, draw in draws("pages", 100 + CASES // 2):
+            problem, root, parents = random_page(draw)
+            n, wanted = problem.n, page_of(problem, root, parents)
+            page = wm.write_page(*problem, root, parents)
+            self.assertEqual(page, wanted, name)
+            given = page_call(draw, problem, root, parents)
+            found = ask_page(page_tables(given), given.places)
+            lent = lent_bytes(given.places)
+            self.assertEqual(found, page_left(0, wanted, lent), name)
+            tree, got = wm.Tree(root, parents), wm.evaluate(*problem, root, parents)
+            lines = page.splitlines()
+            order = [int(line[:68]) for line in lines]
+            self.assertEqual(sorted(order), list(range(n)), name)
+            for place, (x, line) in enumerate(zip(order, lines)):
+                depth = len(line) - len(line.lstrip())
+                figures = depth, int(line[68:79]), int(line[79:90])
+                known = tree.depth(x), got.imbalance[x], got.potential[x]
+                self.assertEqual(figures, known, name)
+                subtree = tree.below(x)
+                self.assertEqual(sorted(order[place : place + len(subtree)]), subtree)
+            pairs = problem.pairs()
+            ways = [(x, parents[x]) for x in range(n) if x != root]
+            met["alone"] += n == 1
+            met["deep"] += max(map(tree.depth, range(n))) >= 32
+            met["wide"] += max(map(parents.count, parents)) > 3
+            met["flat"] += any(
+                got.imbalance[way[0]] == 0 and pairs[way] > 0 for way in ways
+            )
+            met["below 0"] += min(got.imbalance) < 0 and min(got.potential) < 0
+            met["large"] += max(map(abs, got.imbalance)) >= 10**7
+        self.assertGreater(min(met.values()), CASES // 200, met)
+
+    def test_faulty_pages(self) -> None:
+        """With up to three faults, and buffers that are too short."""
+        met = {number: 0 for number in range(11)}
+        for name, draw in draws("faulty pages", 200 + CASES):
+            given = faulty_page(draw, page_call(draw, *random_page(draw)))
+            number, page = tree_page(given)
+            found = ask_page(page_tables(given), given.places)
+            wanted = page_left(number, page, lent_bytes(given.places))
+            self.assertEqual(found, wanted, name)
+            met[number] += 1
+        self.assertGreater(min(met.values()), CASES // 400, met)
 
     def test_trees(self) -> None:
         """Trees, and trees with a wrong parent or root."""
@@ -2297,6 +2655,7 @@ class WrongAnswers(unittest.TestCase):
         lists = [(place, 0) for place in range(-10, 0)]
         image = [(-2, byte) for byte in (*range(40), -1)] + [(-1, 0)]
         sheet = [(-5, k) for k in range(24)] + [(place, 0) for place in range(-4, 0)]
+        page = [(-2, byte) for byte in (*range(96), -1)] + [(-1, 0)]
         tests: List[Tuple[Type[unittest.TestCase], str, List[Tuple[int, int]]]] = [
             (MarkedCases, "solve", at_end),
             (ByDefinition, "solve", at_end),
@@ -2322,6 +2681,8 @@ class WrongAnswers(unittest.TestCase):
             (ByDefinition, "rewrite", image),
             (MarkedCases, "report", sheet),
             (ByDefinition, "report", sheet),
+            (MarkedCases, "write_page", page),
+            (ByDefinition, "write_page", page),
         ]
         for test, name, places in tests:
             for place, item in places:
@@ -2460,6 +2821,38 @@ class WrongAnswers(unittest.TestCase):
                 for test in (Refusals(by_hand), ByDefinition("test_damaged_reels")):
                     passed = self.passes(reporting(wrong), test)
                     self.assertFalse(passed, (name, test))
+
+    def test_right_pages(self) -> None:
+        """The definition in place of the library passes the tests of pages."""
+        for test in (
+            MarkedCases("test_write_page"),
+            ByDefinition("test_write_page"),
+            Refusals("test_pages"),
+            Refusals("test_buffers_of_pages"),
+            Refusals("test_lists_of_pages"),
+            ByDefinition("test_faulty_pages"),
+        ):
+            self.assertTrue(self.passes(paging(right_page), test, 400), test)
+
+    def test_pages(self) -> None:
+        """A page with other lines, figures or bytes around it, or in another order, and
+        tests fail."""
+        wrong = {**wrong_lines(), **wrong_orders(), **wrong_figures(), **wrong_rests()}
+        for name, page in wrong.items():
+            for kind in (MarkedCases, ByDefinition):
+                test = kind("test_write_page")
+                self.assertFalse(self.passes(paging(page), test), (name, test))
+
+    def test_refusals_of_pages(self) -> None:
+        """A page that refuses otherwise, or not, or leaves something, and tests
+        fail."""
+        for by_hand, group in (
+            ("test_pages", wrong_page_refusals()),
+            ("test_buffers_of_pages", wrong_buffers()),
+        ):
+            for name, page in group.items():
+                for test in (Refusals(by_hand), ByDefinition("test_faulty_pages")):
+                    self.assertFalse(self.passes(paging(page), test), (name, test))
 
 
 def spoil(spoiled: str, place: int, item: int) -> Callable[..., Any]:
@@ -3097,6 +3490,371 @@ def wrong_tallies() -> Dict[str, Reporting]:
         "the first kept": results(lambda reel: [0, 0, 0, KEPT]),
         "the count as the first": results(
             lambda reel: [0, 0, 0, int.from_bytes(reel[:2], "little")]
+        ),
+    }
+
+
+# From what a page is asked with and the buffer that is lent: what the page leaves.
+Paging = Callable[[PageCall, bytes], PageLeft]
+
+
+def paging(wrong: Paging) -> Callable[..., Any]:
+    """The library with another page. Edge lists of unequal length are given to it as
+    too many edges, since both are refused by 2."""
+    real = wm._call
+
+    def other(name: str, *arguments: Any) -> Any:
+        if name != "mover_write_page":
+            return real(name, *arguments)
+        n, a, b, lengths, mu, nu, root, parents, buffer, length = arguments
+        equal = len(a) == len(b) == len(lengths)
+        edges = list(zip(a, b, lengths)) if equal else 513 * [(0, 0, 0)]
+        tables = edges, list(mu), list(nu), root, list(parents)
+        given = PageCall(n, *tables, len(buffer))
+        number, buffer[:], value = wrong(given, bytes(buffer))
+        if value != KEPT:
+            length._obj.value = value
+        return number
+
+    return other
+
+
+def right_page(given: PageCall, lent: bytes) -> PageLeft:
+    return page_left(*tree_page(given), lent)
+
+
+def accepted(page: Callable[[PageCall], str]) -> Paging:
+    """Another page where one is accepted, cut off where the right one ends."""
+
+    def other(given: PageCall, lent: bytes) -> PageLeft:
+        number, right = tree_page(given)
+        return page_left(number, page(given)[: len(right)] if right else "", lent)
+
+    return other
+
+
+def right_lines(given: PageCall) -> List[Tuple[int, int, int, int]]:
+    """Number, depth, imbalance and potential of each line."""
+    weighed = weigh(Problem(given.edges, given.mu, given.nu), given.parents)
+    return [
+        (x, depth, weighed.imbalance[x], weighed.potential[x])
+        for x, depth in preorder(given.root, given.parents)
+    ]
+
+
+def wrong_lines() -> Dict[str, Paging]:
+    """Lines of another form, from their number, depth, imbalance and potential. The
+    refusals are right."""
+
+    def lines(line: Callable[[int, int, int, int], str]) -> Paging:
+        return accepted(
+            lambda given: "".join(line(*parts) for parts in right_lines(given))
+        )
+
+    def indented(indent: Callable[[int, int], str]) -> Paging:
+        """Another start, from the number and the depth."""
+        return lines(
+            lambda x, depth, *figures: indent(x, depth).ljust(68)[:68]
+            + line_of(x, depth, *figures)[68:]
+        )
+
+    def fields(form: Callable[[int], str]) -> Paging:
+        """Other fields for both figures."""
+        return lines(
+            lambda x, depth, *figures: line_of(x, depth, *figures)[:68]
+            + "".join(map(form, figures))
+            + "     \n"
+        )
+
+    def changed_line(change: Callable[[str], str]) -> Paging:
+        return lines(lambda *parts: change(line_of(*parts)))
+
+    return {
+        "67 columns": changed_line(lambda line: line[:67] + line[68:]),
+        "67 columns, six spaces": changed_line(
+            lambda line: line[:67] + line[68:90] + "      \n"
+        ),
+        "69 columns, four spaces": changed_line(
+            lambda line: line[:68] + " " + line[68:94] + "\n"
+        ),
+        "four spaces": changed_line(lambda line: line[:94] + "\n"),
+        "six spaces": changed_line(lambda line: line[:95] + " \n"),
+        "no newline": changed_line(lambda line: line[:95] + " "),
+        "a zero for the newline": changed_line(lambda line: line[:95] + "\0"),
+        "a return before the newline": changed_line(lambda line: line[:94] + "\r\n"),
+        "potential before imbalance": lines(
+            lambda x, depth, imbalance, u: line_of(x, depth, u, imbalance)
+        ),
+        "minus in the field's first column": fields(lambda z: f"{z:=11}"),
+        "minus two before the digits": fields(
+            lambda z: f"{'- ' if z < 0 else ''}{abs(z)}".rjust(11)
+        ),
+        "minus left out": fields(lambda z: f"{abs(z):11}"),
+        "plus signs": fields(lambda z: f"{z:+11}"),
+        "left-aligned": fields(lambda z: f"{z:<11}"),
+        "filled with 0": fields(lambda z: f"{z:011}"),
+        "0 left out": fields(lambda z: f"{z or '':>11}"),
+        "0 with a minus": fields(lambda z: f"{z or '-0':>11}"),
+        "seven digits": fields(lambda z: f"{abs(z) % 10**7 * (z > 0 or -1):11}"),
+        "fields of ten and twelve": changed_line(
+            lambda line: line[:68] + line[69:79] + " " + line[79:]
+        ),
+        "numbers without a 0 before": indented(lambda x, depth: depth * " " + f"{x}"),
+        "numbers from 1": indented(lambda x, depth: depth * " " + f"{x + 1:02}"),
+        "numbers to base 16": indented(lambda x, depth: depth * " " + f"{x:02x}"),
+        "depth + 2 per level": indented(lambda x, depth: 2 * depth * " " + f"{x:02}"),
+        "the root at 1": indented(lambda x, depth: (depth + 1) * " " + f"{x:02}"),
+        "not indented": indented(lambda x, depth: f"{x:02}"),
+        "indented by 31 at most": indented(
+            lambda x, depth: min(depth, 31) * " " + f"{x:02}"
+        ),
+        "dots for spaces": indented(lambda x, depth: depth * "." + f"{x:02}"),
+    }
+
+
+def wrong_orders() -> Dict[str, Paging]:
+    """Right lines in another order, or not each of them once. The refusals are
+    right."""
+
+    def lines(order: Callable[[PageCall, List[Any]], List[Any]]) -> Paging:
+        """From the right lines, each as its number, depth and figures."""
+        return accepted(
+            lambda given: "".join(
+                line_of(*parts) for parts in order(given, right_lines(given))
+            )
+        )
+
+    def walked(
+        children: Callable[[List[int]], List[int]], last: bool = False
+    ) -> Paging:
+        """Other children, or a vertex behind its own."""
+
+        def page(given: PageCall) -> str:
+            known = {x: line_of(x, *rest) for x, *rest in right_lines(given)}
+
+            def below(x: int) -> str:
+                own = [y for y, up in enumerate(given.parents) if up == x != y]
+                subtrees = "".join(map(below, children(own)))
+                return subtrees + known[x] if last else known[x] + subtrees
+
+            return below(given.root)
+
+        return accepted(page)
+
+    return {
+        "only the first child": walked(lambda children: children[:1]),
+        "only the last child": walked(lambda children: children[-1:]),
+        "no grandchildren": lines(
+            lambda given, right: [line for line in right if line[1] < 2]
+        ),
+        "children by falling number": walked(lambda children: children[::-1]),
+        "the first child last": walked(lambda children: children[1:] + children[:1]),
+        "children before their parent": walked(lambda children: children, last=True),
+        "by number": lines(lambda given, right: sorted(right)),
+        "by depth": lines(lambda given, right: sorted(right, key=lambda line: line[1])),
+        "vertex 0 first": lines(
+            lambda given, right: sorted(right, key=lambda line: line[0] != 0)
+        ),
+        "a line twice": lines(lambda given, right: right[:2] + right[1:]),
+        "the last line twice": lines(lambda given, right: right[:-2] + 2 * right[-1:]),
+        "the root as its own child": lines(
+            lambda given, right: right[:1]
+            + sorted([(given.root, 1, 0, 0), *right[1:2]])
+            + right[2:]
+        ),
+        "the first line left out": lines(lambda given, right: right[1:]),
+        "the last line left out": lines(lambda given, right: right[:-1]),
+        "63 lines at most": lines(lambda given, right: right[:63]),
+    }
+
+
+def wrong_figures() -> Dict[str, Paging]:
+    """Other figures in right lines. The refusals are right."""
+
+    def figures(other: Callable[[PageCall, int, int, int], Tuple[int, int]]) -> Paging:
+        """From the vertex, its imbalance and its potential."""
+        return accepted(
+            lambda given: "".join(
+                line_of(x, depth, *other(given, x, imbalance, u))
+                for x, depth, imbalance, u in right_lines(given)
+            )
+        )
+
+    def signed(zero: int) -> Paging:
+        """Another sign of 0."""
+
+        def page(given: PageCall) -> str:
+            lengths = Problem(given.edges, given.mu, given.nu).pairs()
+            potential, text = {}, ""
+            for x, depth, imbalance, _ in right_lines(given):
+                up = given.parents[x]
+                sign = (imbalance > 0) - (imbalance < 0) or zero
+                slope = 0 if x == up else sign * lengths[x, up]
+                potential[x] = potential.get(up, 0) + slope
+                text += line_of(x, depth, imbalance, potential[x])
+            return text
+
+        return accepted(page)
+
+    return {
+        "the sign of 0 taken as plus": signed(1),
+        "the sign of 0 taken as minus": signed(-1),
+        "the vertex's own difference": figures(
+            lambda given, x, imbalance, u: (given.mu[x] - given.nu[x], u)
+        ),
+        "nu - mu": figures(lambda given, x, imbalance, u: (-imbalance, u)),
+        "the imbalance's size": figures(
+            lambda given, x, imbalance, u: (abs(imbalance), u)
+        ),
+        "the potential turned round": figures(
+            lambda given, x, imbalance, u: (imbalance, -u)
+        ),
+        "the best answer's potential": figures(
+            lambda given, x, imbalance, u: (
+                imbalance,
+                wm.solve(given.edges, given.mu, given.nu).potential[x],
+            )
+        ),
+        "24 bits of the imbalance": figures(
+            lambda given, x, imbalance, u: ((imbalance + 2**23) % 2**24 - 2**23, u)
+        ),
+        "16 bits of the potential": figures(
+            lambda given, x, imbalance, u: (imbalance, (u + 2**15) % 2**16 - 2**15)
+        ),
+    }
+
+
+def wrong_rests() -> Dict[str, Paging]:
+    """The right page with another length, or with other bytes behind it. The refusals
+    are right."""
+
+    def leaving(change: Callable[[bytes, bytes], Tuple[bytes, int]]) -> Paging:
+        """The buffer and the length, from the page and the rest of the buffer."""
+
+        def other(given: PageCall, lent: bytes) -> PageLeft:
+            number, buffer, size = right_page(given, lent)
+            if number != 0:
+                return number, buffer, size
+            return (0, *change(buffer[:size], buffer[size:]))
+
+        return other
+
+    return {
+        "length 0": leaving(lambda page, rest: (page + rest, 0)),
+        "length kept": leaving(lambda page, rest: (page + rest, KEPT)),
+        "the number of lines": leaving(
+            lambda page, rest: (page + rest, len(page) // 96)
+        ),
+        "95 for each": leaving(lambda page, rest: (page + rest, len(page) // 96 * 95)),
+        "the buffer's length": leaving(
+            lambda page, rest: (page + rest, len(page + rest))
+        ),
+        "the rest cleared": leaving(
+            lambda page, rest: (page + bytes(len(rest)), len(page))
+        ),
+        "spaces for the rest": leaving(
+            lambda page, rest: (page + len(rest) * b" ", len(page))
+        ),
+        "a zero behind": leaving(
+            lambda page, rest: (page + bytes(len(rest[:1])) + rest[1:], len(page))
+        ),
+        "at the buffer's end": leaving(lambda page, rest: (rest + page, len(page))),
+    }
+
+
+def wrong_page_refusals() -> Dict[str, Paging]:
+    """A page that refuses by another number, or not."""
+
+    def refusing(choose: Callable[[List[int]], int]) -> Paging:
+        def other(given: PageCall, lent: bytes) -> PageLeft:
+            numbers = failing_page(given)
+            if not numbers:
+                return right_page(given, lent)
+            return choose(numbers), lent, 0
+
+        return other
+
+    def without(number: int) -> Paging:
+        return refusing(lambda numbers: next((k for k in numbers if k != number), 0))
+
+    def before(number: int) -> Paging:
+        """With the forerunner's check behind its own."""
+        order = [*range(1, number - 1), number, number - 1, *range(number + 1, 11)]
+        return refusing(lambda numbers: min(numbers, key=order.index))
+
+    def buffer_after(number: int) -> Paging:
+        """A short buffer is refused after the checks up to the number."""
+
+        def other(given: PageCall, lent: bytes) -> PageLeft:
+            numbers = failing_page(given._replace(places=96 * given.n))
+            if numbers and numbers[0] <= number:
+                return numbers[0], lent, 0
+            return right_page(given, lent)
+
+        return other
+
+    return {
+        **{f"{number} left out": without(number) for number in range(1, 11)},
+        "a short buffer refused after 3": buffer_after(3),
+        "a short buffer refused last": buffer_after(10),
+        **{f"{k - 1} after {k}": before(k) for k in range(2, 11)},
+        "the last that fails": refusing(max),
+    }
+
+
+def wrong_buffers() -> Dict[str, Paging]:
+    """Other lengths of a buffer that are refused, and refusals that leave something."""
+
+    def wanting(fits: Callable[[int, int], bool]) -> Paging:
+        """From n and the buffer's length; what fits of the page is written."""
+
+        def other(given: PageCall, lent: bytes) -> PageLeft:
+            fitting = fits(given.n, given.places)
+            places = 96 * given.n if fitting else -1
+            number, page = tree_page(given._replace(places=places))
+            _, buffer, size = page_left(number, page, lent)
+            return number, buffer[: len(lent)], size
+
+        return other
+
+    def leaving(change: Callable[[PageCall, bytes], Tuple[bytes, int]]) -> Paging:
+        """After a refusal."""
+
+        def other(given: PageCall, lent: bytes) -> PageLeft:
+            number, buffer, size = right_page(given, lent)
+            if number == 0:
+                return number, buffer, size
+            return (number, *change(given, lent))
+
+        return other
+
+    def lines_that_fit(given: PageCall, lent: bytes) -> Tuple[bytes, int]:
+        """Of a page that is refused for its buffer alone."""
+        _, page = tree_page(given._replace(places=96 * given.n))
+        new = page[: len(lent) // 96 * 96].encode("ascii")
+        return new + lent[len(new) :], 0
+
+    return {
+        "a short buffer accepted": wanting(lambda n, places: True),
+        "one byte short accepted": wanting(lambda n, places: places >= 96 * n - 1),
+        "95 bytes for each accepted": wanting(lambda n, places: places >= 95 * n),
+        "a line less accepted": wanting(lambda n, places: places >= 96 * (n - 1)),
+        "one byte more wanted": wanting(lambda n, places: places > 96 * n),
+        "a longer buffer refused": wanting(lambda n, places: places == 96 * n),
+        "6,144 bytes wanted": wanting(lambda n, places: places >= 6_144),
+        "the buffer written after a refusal": leaving(
+            lambda given, lent: (len(lent) * b" ", 0)
+        ),
+        "the buffer cleared after a refusal": leaving(
+            lambda given, lent: (bytes(len(lent)), 0)
+        ),
+        "a byte written after a refusal": leaving(
+            lambda given, lent: (b" "[: len(lent)] + lent[1:], 0)
+        ),
+        "the lines that fit left": leaving(lines_that_fit),
+        "the length kept": leaving(lambda given, lent: (lent, KEPT)),
+        "the length wanted": leaving(
+            lambda given, lent: (lent, min(96 * given.n, 2**64 - 1))
         ),
     }
 

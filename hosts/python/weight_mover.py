@@ -28,6 +28,16 @@ Costs count grains times hundredths of a millimetre. A tree is a root and the pa
 each vertex; the root is its own parent, and every other vertex shares an edge of the
 patch with its parent.
 
+A page shows a tree in plain text, for the wall or a terminal. `write_page` gives a line
+for each vertex: its number, indented by its depth, its imbalance and its potential.
+
+    >>> page = weight_mover.write_page(edges, [3, 0, 0], [0, 3, 0], 0, [0, 2, 0])
+    >>> for line in page.splitlines():
+    ...     print(line[:5], line[68:79], line[79:90])
+    00              0           0
+     02            -3          -1
+      01           -3          -2
+
 A brush asks which vertices are within a reach of one, and which vertex with paint is
 nearest to it. Both go by distance, the least sum of lengths over all paths.
 
@@ -130,8 +140,9 @@ __all__ = [
     "to_weights",
     "vertices_within",
     "write",
+    "write_page",
 ]
-__version__ = "0.3.2"
+__version__ = "0.3.3"
 
 MAX_VERTICES = 64
 MAX_EDGES = 512
@@ -332,6 +343,7 @@ _SIGNATURES = {
         _PROBLEM + _GIVEN_TREE + 2 * _I32S + _U32S + _COST_AND_MOVES,
     ),
     "mover_is_optimal": (c_uint32, _PROBLEM + _GIVEN_TREE + [POINTER(c_uint32)]),
+    "mover_write_page": (c_uint32, _PROBLEM + _GIVEN_TREE + _WRITTEN),
     "mover_solve": (c_uint32, _PROBLEM + _U32S + _I32S + _U32S + _COST_AND_MOVES),
     "mover_mark_ancestors": (c_uint32, [c_size_t] + _GIVEN_TREE + [c_size_t] + _U64S),
     "mover_vertices_within": (
@@ -586,6 +598,8 @@ def _entries(table: List[List[int]]) -> List[Entry]:
 
 # ---- Calls on lists
 
+_LINE = 96  # bytes of a page for each vertex
+
 
 def distances(n: SupportsIndex, edges: Edges) -> List[List[int]]:
     """The distance between every two of n vertices: n rows of n numbers.
@@ -675,6 +689,43 @@ def is_optimal(
     problem, tree = _problem(edges, mu, nu), _given_tree(root, parents)
     _check("mover_is_optimal", *problem, *tree, byref(optimal))
     return optimal.value == 1
+
+
+def write_page(
+    edges: Edges, mu: Painting, nu: Painting, root: SupportsIndex, parents: Numbers
+) -> str:
+    """A given tree as text, to be printed: a line for each vertex, the root first.
+    Behind a vertex come its children by rising number, each with its whole subtree
+    before the following child.
+
+    A line has 96 characters, all of them ASCII. In columns, counted from 0:
+
+    0 to 67   as many spaces as the vertex's depth, its number in two digits, spaces
+    68 to 78  its imbalance in grains, as `evaluate` gives it, right-aligned
+    79 to 89  its potential in hundredths of a millimetre, likewise
+    90 to 94  spaces
+    95        a newline
+
+    A minus sign is straight before its digits.
+
+    >>> branches = [(0, 1, 5), (1, 2, 3), (1, 3, 4)]
+    >>> page = write_page(branches, [0, 7, 0, 2], [5, 0, 4, 0], 1, [1, 1, 1, 1])
+    >>> len(page)
+    384
+    >>> for line in page.splitlines():
+    ...     print((line[:68].rstrip(), int(line[68:79]), int(line[79:90])))
+    ('01', 0, 0)
+    (' 00', -5, -5)
+    (' 02', -4, -3)
+    (' 03', 2, 4)
+
+    Lengths in hundredths of a millimetre; paintings in grains, or weights if they are
+    floats. Refuses by 1 to 10, and weights by 15 and 16 before.
+    """
+    problem, tree = _problem(edges, mu, nu), _given_tree(root, parents)
+    buffer, length = (c_uint8 * (_LINE * _room(problem[0])))(), c_size_t()
+    _check("mover_write_page", *problem, *tree, buffer, byref(length))
+    return bytes(buffer)[: length.value].decode("ascii")
 
 
 def mark_ancestors(

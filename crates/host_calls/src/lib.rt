@@ -6,6 +6,7 @@ ghost use Rattle.distance_queries.specs.Within.{FoundWithin};
 ghost use Rattle.distance_queries.specs.Nearest.{FoundNearest};
 ghost use Rattle.given_tree.specs.Given.{given};
 ghost use Rattle.tree_evaluation.specs.Evaluate.{Evaluated};
+ghost use Rattle.tree_page.specs.Page.{PageWritten};
 ghost use Rattle.optimal_transport.specs.Solve.{Solved};
 ghost use Rattle.optimality_test.specs.OptimalityTest.{OptimalityTested};
 ghost use Rattle.tree_walks.specs.MarkAncestors.{markRefusal, markTable};
@@ -94,6 +95,28 @@ pub extern "C" fn mover_is_optimal(
     let tested = optimality_test::is_optimal(n, a, b, lengths, mu, nu, root, parents);
     *optimal = tested.optimal;
     tested.refusal
+}
+
+// Writes the page of a given tree, and how many bytes it has.
+#[no_mangle]
+pub extern "C" fn mover_write_page(
+    n: usize,
+    a: &[u32],
+    b: &[u32],
+    lengths: &[u32],
+    mu: &[u64],
+    nu: &[u64],
+    root: usize,
+    parents: &[u32],
+    buffer: &mut [u8],
+    length: &mut usize,
+) -> u32
+    ensures { λ r. ⌜ PageWritten (graph n (now (a .entry)) (now (b .entry)) (now (lengths .entry)))
+        (given (now (mu .entry)) (now (nu .entry)) root (now (parents .entry))) (now (buffer .entry)) r (now (length .exit)) (now (buffer .exit)) ⌝ }
+{
+    let page = tree_page::write_page(n, a, b, lengths, mu, nu, root, parents, buffer);
+    *length = page.length;
+    page.refusal
 }
 
 // The best answer: fills in a best tree with root 0, its potential and its plan.

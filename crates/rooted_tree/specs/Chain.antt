@@ -1,5 +1,5 @@
 -- Chains of parents. A tree is given by a function p, the parent of each vertex, and its root r.
-use mathlib.Core.Bool.{Bool, cond, _||_}
+use mathlib.Core.Bool.{Bool, not, cond, _&&_, _||_}
 use Prim.Native.Nat.{ℕ, zero, suc}
 use lib.Dec.{eqb}
 
@@ -17,3 +17,7 @@ below p (suc k) y x = eqb y x || below p k (p y) x
 unfoldable pub depth : (ℕ → ℕ) → ℕ → ℕ → ℕ → ℕ
 depth p r zero y = 0
 depth p r (suc k) y = cond (eqb y r) 0 (suc (depth p r k (p y)))
+
+-- c is a child of v: v is its parent. The root r is its own parent and nobody's child
+abbrev pub isChild : ℕ → (ℕ → ℕ) → ℕ → ℕ → Bool
+isChild r p v c = not (eqb c r) && eqb (p c) v

@@ -1,16 +1,18 @@
 // Evaluating a given tree, document 01's weighing.
-ghost use mathlib.Core.List.{List};
+ghost use mathlib.Core.Path.{_≡_};
+ghost use mathlib.Core.List.{List, _++_};
 ghost use Prim.Native.Nat.{ℕ, _≤_};
-ghost use lib.ListN.{length};
-ghost use Rattle.arithmetic.specs.Table.{at};
+ghost use lib.ListN.{length, drop};
+ghost use Rattle.arithmetic.specs.Table.{at, tab};
 ghost use Rattle.arithmetic.specs.Mask.{mask};
 ghost use Rattle.arithmetic.specs.Steps.Fill.{Filled};
-ghost use Rattle.rooted_tree.specs.Chain.{below};
+ghost use Rattle.rooted_tree.specs.Chain.{below, depth};
 ghost use Rattle.graph.specs.Graph.{graph};
 ghost use Rattle.given_tree.specs.Given.{given};
 ghost use Rattle.tree_evaluation.specs.Evaluate.{Evaluated};
+ghost use Rattle.tree_figures.specs.Figures.{imbalance, treeCost};
 ghost use Rattle.tree_figures.specs.Steps.Tables.{LengthsTo};
-ghost use Rattle.tree_evaluation.specs.Steps.EvaluateTree.{Evaluable, TreeEvaluated};
+ghost use Rattle.tree_evaluation.specs.Steps.EvaluateTree.{Weighted, Evaluable, TreeEvaluated};
 use spanning_tree::tree::Tree;
 use subtree_sums::subtree_tables;
 use transport_plan::tree_plan;
@@ -28,8 +30,47 @@ pub struct TreeValue {
     pub moves: u32,
 }
 
-// Evaluates an accepted tree, on every graph whose lengths from a vertex to its parent are in `above`: fills in the words below its vertices,
-// gathered once for all that follows, its imbalances and its plan.
+// The flow of an accepted tree: fills in the depths of its vertices, the words below them, gathered once for all that follows, and the imbalances, and
+// returns the cost, on every graph whose lengths from a vertex to its parent are in `above`.
+pub fn tree_flow(
+    tree: Tree,
+    above: &[u32],
+    mu: &[u64],
+    nu: &[u64],
+    depths: &mut [u32],
+    masks: &mut [u64],
+    flow: &mut [i32],
+) -> u64
+    requires { ⌜ Weighted (tree .n) (tree .root) (tree .parents) (now above) (now mu) (now nu) (now flow) ⌝ }
+    requires room { ⌜ (tree .n ≤ length (now depths)) × (tree .n ≤ length (now masks)) ⌝ }
+    ensures levels { λ r. ⌜ Filled (tree .n) (depth (at (tree .parents)) (tree .root) (tree .n)) (now (depths .entry)) (now (depths .exit)) ⌝ }
+    ensures words { λ r. ⌜ Filled (tree .n) (λ x. mask (tree .n) (λ y. below (at (tree .parents)) (tree .n) y x)) (now (masks .entry)) (now (masks .exit)) ⌝ }
+    ensures figures { λ r. ⌜ now (flow .exit)
+        ≡ tab (tree .n) (imbalance (tree .n) (at (tree .parents)) (at (now (mu .entry))) (at (now (nu .entry)))) ++ drop (tree .n) (now (flow .entry)) ⌝ }
+    ensures cost { λ r. ⌜ ((a b lengths : List ℕ) → LengthsTo (graph (tree .n) a b lengths) (tree .root) (at (tree .parents)) (at (now (above .entry)))
+        → r ≡ treeCost (graph (tree .n) a b lengths) (tree .root) (at (tree .parents)) (at (now (mu .entry))) (at (now (nu .entry)))) ⌝ }
+{
+    let n = tree.n;
+    let root = tree.root;
+    let parents = tree.parents;
+    let mut supply = [0u64; 64];
+    let mut demand = [0u64; 64];
+    subtree_tables(
+        n,
+        root,
+        &parents,
+        mu,
+        nu,
+        depths,
+        masks,
+        &mut supply,
+        &mut demand,
+    );
+    tree_figures::write_imbalance(n, &supply, &demand, flow);
+    tree_figures::tree_cost(n, root, above, &supply, &demand)
+}
+
+// Evaluates an accepted tree: its flow, and its plan.
 pub fn evaluate_tree(
     tree: Tree,
     above: &[u32],
@@ -46,25 +87,8 @@ pub fn evaluate_tree(
         → TreeEvaluated (graph (tree .n) a b lengths) (tree .root) (at (tree .parents)) (at (now (mu .entry))) (at (now (nu .entry)))
         (now (imbalance .entry)) (now (plan .entry)) (r .cost) (r .moves) (now (imbalance .exit)) (now (plan .exit))) ⌝ }
 {
-    let n = tree.n;
-    let root = tree.root;
-    let parents = tree.parents;
     let mut depth = [0u32; 64];
-    let mut supply = [0u64; 64];
-    let mut demand = [0u64; 64];
-    subtree_tables(
-        n,
-        root,
-        &parents,
-        mu,
-        nu,
-        &mut depth,
-        masks,
-        &mut supply,
-        &mut demand,
-    );
-    tree_figures::write_imbalance(n, &supply, &demand, imbalance);
-    let cost = tree_figures::tree_cost(n, root, above, &supply, &demand);
+    let cost = tree_flow(tree, above, mu, nu, &mut depth, masks, imbalance);
     let moves = tree_plan(tree, &depth, masks, mu, nu, plan);
     TreeValue {
         cost: cost,

@@ -6,3 +6,4 @@ pub mod Weights
 pub mod Images
 pub mod Queries
 pub mod Reports
+pub mod Pages

@@ -186,6 +186,25 @@ mod ffi {
             buffer_len: usize,
             length: *mut usize,
         ) -> u32;
+        pub fn mover_write_page(
+            n: usize,
+            a: *const u32,
+            a_len: usize,
+            b: *const u32,
+            b_len: usize,
+            lengths: *const u32,
+            lengths_len: usize,
+            mu: *const u64,
+            mu_len: usize,
+            nu: *const u64,
+            nu_len: usize,
+            root: usize,
+            parents: *const u32,
+            parents_len: usize,
+            buffer: *mut u8,
+            buffer_len: usize,
+            length: *mut usize,
+        ) -> u32;
         pub fn mover_rewrite(
             image: *const u8,
             image_len: usize,
@@ -693,6 +712,76 @@ pub fn mover_write_image(
             nu.as_ptr(),
             nu.len(),
             tree,
+            root,
+            parents.as_ptr(),
+            parents.len(),
+            buffer.as_mut_ptr(),
+            buffer.len(),
+            length,
+        )
+    }
+}
+
+/// Writes a tree as a page of text into the start of `buffer`: a line of 96 bytes for each vertex, every vertex
+/// before its children, these by rising number, and each with its whole subtree before the following one.
+/// `length` becomes 96 × n, [`page_size`](crate::page_size); the buffer's other bytes stay as they were.
+///
+/// | columns, from 0 | content |
+/// |---|---|
+/// | 0 to 67 | as many spaces as the vertex is deep, its number in two digits, spaces |
+/// | 68 to 78 | its imbalance, to the right |
+/// | 79 to 89 | its potential, to the right |
+/// | 90 to 94 | spaces |
+/// | 95 | a newline |
+///
+/// Both figures are those of [`mover_evaluate`], a minus straight before the digits. All bytes are ASCII. Refuses by
+/// 1 to 10, as that call does; a buffer under 96 × n bytes is 2.
+///
+/// ```
+/// use weight_mover::calls::mover_write_page;
+///
+/// let (mut buffer, mut length) = ([b'.'; 200], 9);
+/// let number = mover_write_page(
+///     2, &[0], &[1], &[7], &[3, 1], &[0, 4], 0, &[0, 0], &mut buffer, &mut length,
+/// );
+/// assert_eq!((number, length), (0, 2 * 96));
+/// let root = format!("{:68}{:>11}{:>11}     \n", "00", "0", "0");
+/// let child = format!("{:68}{:>11}{:>11}     \n", " 01", "-3", "-7");
+/// assert_eq!(buffer[..96], *root.as_bytes());
+/// assert_eq!(buffer[96..192], *child.as_bytes());
+/// assert_eq!(buffer[192..], [b'.'; 8]);
+///
+/// let before = buffer;
+/// let number = mover_write_page(
+///     2, &[0], &[1], &[7], &[3, 1], &[0, 4], 0, &[0, 0], &mut buffer[..191], &mut length,
+/// );
+/// assert_eq!((number, length, buffer), (2, 0, before));
+/// ```
+pub fn mover_write_page(
+    n: usize,
+    a: &[u32],
+    b: &[u32],
+    lengths: &[u32],
+    mu: &[u64],
+    nu: &[u64],
+    root: usize,
+    parents: &[u32],
+    buffer: &mut [u8],
+    length: &mut usize,
+) -> u32 {
+    unsafe {
+        ffi::mover_write_page(
+            n,
+            a.as_ptr(),
+            a.len(),
+            b.as_ptr(),
+            b.len(),
+            lengths.as_ptr(),
+            lengths.len(),
+            mu.as_ptr(),
+            mu.len(),
+            nu.as_ptr(),
+            nu.len(),
             root,
             parents.as_ptr(),
             parents.len(),

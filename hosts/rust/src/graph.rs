@@ -1,9 +1,9 @@
 use crate::calls::{
     mover_distances, mover_distances_of_records, mover_evaluate, mover_is_optimal, mover_nearest_vertex,
-    mover_solve, mover_vertices_within,
+    mover_solve, mover_vertices_within, mover_write_page,
 };
 use crate::lend::{lend, settle};
-use crate::{Answer, Evaluation, Refusal, MAX_VERTICES};
+use crate::{page_size, Answer, Evaluation, Refusal, MAX_VERTICES};
 
 /// An edge: two ends, `a < b`, and a length in hundredths of a millimetre.
 #[derive(Clone, Copy, Debug, Default, PartialEq, Eq, Hash)]
@@ -288,6 +288,64 @@ impl Graph {
             &mut optimal,
         ))?;
         Ok(optimal == 1)
+    }
+
+    /// A spanning tree as a page of text: a line for each vertex, indented by its depth, with its imbalance and its
+    /// potential, as [`evaluate`](Graph::evaluate) gives them. A vertex is followed by its children by rising
+    /// number, each with its whole subtree; [`mover_write_page`] says what the columns are.
+    ///
+    /// ```
+    /// use weight_mover::Graph;
+    ///
+    /// // 2 is below 0, and 0 and 1 are below 3.
+    /// let graph = Graph::new(4).edges([(0, 2, 5), (0, 3, 1), (1, 3, 4)]);
+    /// let page = graph.page(&[0, 0, 9, 0], &[2, 4, 0, 3], 3, &[3, 3, 0, 3])?;
+    /// let lines: Vec<Vec<&str>> = page.lines().map(|line| line.split_whitespace().collect()).collect();
+    /// assert_eq!(lines, [["03", "0", "0"], ["00", "7", "1"], ["02", "9", "6"], ["01", "-4", "-4"]]);
+    /// assert!(page.lines().all(|line| line.len() == 95));
+    /// # Ok::<(), weight_mover::Refusal>(())
+    /// ```
+    pub fn page(&self, mu: &[u64], nu: &[u64], root: usize, parents: &[u32]) -> Result<String, Refusal> {
+        let mut page = vec![0; page_size(self.vertices.min(MAX_VERTICES))];
+        self.page_into(mu, nu, root, parents, &mut page)?;
+        Ok(String::from_utf8(page).expect("ASCII"))
+    }
+
+    /// The same into a buffer that is there, and may be longer: returns how many bytes were written,
+    /// [`page_size`], and the others stay as they were. After a refusal all bytes are as they were.
+    ///
+    /// ```
+    /// use weight_mover::{Graph, Refusal};
+    ///
+    /// let (graph, mut buffer) = (Graph::new(1), [b'.'; 100]);
+    /// assert_eq!(graph.page_into(&[3], &[3], 0, &[0], &mut buffer)?, 96);
+    /// assert_eq!((&buffer[..4], &buffer[90..]), (&b"00  "[..], &b"     \n...."[..]));
+    /// let short = graph.page_into(&[3], &[3], 0, &[0], &mut buffer[..95]);
+    /// assert_eq!(short, Err(Refusal::TableSize));
+    /// # Ok::<(), Refusal>(())
+    /// ```
+    pub fn page_into(
+        &self,
+        mu: &[u64],
+        nu: &[u64],
+        root: usize,
+        parents: &[u32],
+        buffer: &mut [u8],
+    ) -> Result<usize, Refusal> {
+        let mut length = 0;
+        Refusal::check(mover_write_page(
+            self.vertices,
+            &self.a,
+            &self.b,
+            &self.lengths,
+            mu,
+            nu,
+            root,
+            parents,
+            buffer,
+            &mut length,
+        ))?;
+        Ok(length)
     }
 
     /// The vertices at most `reach` away from a start, which is one of them, bit v for vertex v.

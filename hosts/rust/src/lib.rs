@@ -40,6 +40,7 @@
 //! | `mover_to_weights` | [`to_weights`] | [`to_weights_into`] |
 //! | `mover_read` | [`read`] | [`read_into`] |
 //! | `mover_write_image` | [`Patch::image`] | |
+//! | `mover_write_page` | [`Graph::page`], [`Patch::page`] | [`Graph::page_into`] |
 //! | `mover_rewrite` | [`rewrite`] | [`rewrite_into`] |
 //! | `mover_run` | [`run`] | [`run_into`] |
 //! | `mover_report` | [`report`](report()), [`report_by_parts`] | |
@@ -49,9 +50,9 @@
 //! [`calls`] has them under their own names, on slices. A [`Patch`] is a graph with its measures and perhaps
 //! a tree: what an image holds, and a [`text`]. [`to_amounts`] makes a measure of weights as paint tools hold
 //! them, 32-bit floats from 0 to 1. Brushes ask a graph which vertices are within a reach, and which one with
-//! paint is nearest. [`pack`] puts images together, and [`report`](report()) says of such a sequence how many are
-//! accepted or refused, and what they cost. The library keeps nothing between calls and may be used from several
-//! threads at once.
+//! paint is nearest. [`Graph::page`] prints a tree as text, a line for each vertex. [`pack`] puts images together,
+//! and [`report`](report()) says of such a sequence how many are accepted or refused, and what they cost. The
+//! library keeps nothing between calls and may be used from several threads at once.
 
 #![warn(missing_docs)]
 
@@ -89,6 +90,11 @@ pub const MAX_TOTAL: u64 = 16_777_216;
 /// An image that is read may be longer, by gaps and a tail, up to 65,536 bytes.
 pub const fn image_size(n: usize, m: usize, tree: bool) -> usize {
     36 + 4 * m + 8 * n + if tree { n + 1 } else { 0 }
+}
+
+/// Bytes of the page of a tree of `n` vertices: a line of 96 for each.
+pub const fn page_size(n: usize) -> usize {
+    96 * n
 }
 
 /// Bytes of the record for `n` vertices: 4n² + 5n + 13.

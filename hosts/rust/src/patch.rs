@@ -97,6 +97,33 @@ impl Patch {
         }
     }
 
+    /// The page of the tree or, if there is none, of the best one, whose root is 0.
+    ///
+    /// The potential is the tree's, as [`Graph::evaluate`] gives it: it is flat where nothing is carried, and there
+    /// the potential of a best answer may be another one.
+    ///
+    /// ```
+    /// use weight_mover::{Patch, Refusal};
+    ///
+    /// let ring = Patch::new(4).edges([(0, 1, 1), (1, 2, 1), (2, 3, 1), (0, 3, 1)]);
+    /// let ring = ring.mu(&[4, 0, 0, 0]).nu(&[0, 0, 0, 4]);
+    /// let has = |page: &str, line: [&str; 3]| page.lines().any(|other| other.split_whitespace().eq(line));
+    /// assert!(has(&ring.clone().tree(0, &[0, 0, 1, 2]).page()?, ["03", "-4", "-3"]));
+    /// assert!(has(&ring.page()?, ["03", "-4", "-1"]));
+    /// assert_eq!(ring.mu(&[5, 0, 0, 0]).page(), Err(Refusal::TotalsDiffer));
+    /// # Ok::<(), Refusal>(())
+    /// ```
+    pub fn page(&self) -> Result<String, Refusal> {
+        let (mu, nu) = self.measures();
+        match self.given_tree() {
+            Some((root, parents)) => self.graph.page(mu, nu, root, parents),
+            None => {
+                let best = self.graph.solve(mu, nu)?;
+                self.graph.page(mu, nu, best.root, &best.parents)
+            }
+        }
+    }
+
     /// The image that the library reads: sections back to back from byte 36, the tree's at the end, empty if
     /// there is none. Two patches have equal images exactly if they are equal.
     ///

@@ -12,7 +12,7 @@ pub enum Refusal {
     /// 1: the number of vertices is 0 or above 64.
     VertexCount,
     /// 2: more than 512 edges, edge lists of unequal length, a measure or given parents that are not one for
-    /// each vertex, or an answer table, record buffer or image buffer that is too short.
+    /// each vertex, or an answer table or a buffer for a record, an image or a page that is too short.
     TableSize,
     /// 3: an edge has an end that is no vertex, has its ends in falling order, or is not after its forerunner.
     EdgeOrder,

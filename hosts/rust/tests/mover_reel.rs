@@ -1,51 +1,21 @@
 //! The command `mover-reel`, on reels and folders of its own, and the script that builds it.
 
+mod command;
+
+use command::{ended, folder, said, scratch, written, Ended, Script};
 use reference::sequences::{of_size, one_of_each, transport, Sequence};
 use std::ffi::OsStr;
 use std::fs;
-use std::path::{Path, PathBuf};
+use std::path::Path;
 use std::process::Command;
 use weight_mover::{pack, report, text, Refusal};
-
-/// What a run ends with: its exit status, standard output and standard error.
-type Ended = (i32, String, String);
 
 fn run<A: AsRef<OsStr>>(arguments: impl IntoIterator<Item = A>) -> Ended {
     ended(Command::new(env!("CARGO_BIN_EXE_mover-reel")).args(arguments))
 }
 
-fn ended(command: &mut Command) -> Ended {
-    let output = command.output().expect("the program runs");
-    let text = |bytes: Vec<u8>| String::from_utf8(bytes).expect("a text");
-    let status = output.status.code().expect("an exit status");
-    (status, text(output.stdout), text(output.stderr))
-}
-
-/// An exit status, and what is printed with it on standard output alone.
-fn said(text: &str) -> Ended {
-    (0, text.into(), String::new())
-}
-
 fn complained(text: String) -> Ended {
     (1, String::new(), text)
-}
-
-fn scratch(name: &str) -> PathBuf {
-    Path::new(env!("CARGO_TARGET_TMPDIR")).join(name)
-}
-
-/// A folder with nothing in it.
-fn folder(name: &str) -> PathBuf {
-    let folder = scratch(name);
-    let _ = fs::remove_dir_all(&folder);
-    fs::create_dir(&folder).expect("a new folder");
-    folder
-}
-
-fn written(name: &str, bytes: impl AsRef<[u8]>) -> PathBuf {
-    let file = scratch(name);
-    fs::write(&file, bytes).expect("written");
-    file
 }
 
 /// One image of each number, the first of them twice more, and three that cost as much as there is for an edge.
@@ -415,76 +385,39 @@ fn empty_folders() {
     assert!(complaint.starts_with(&format!("{}", missing.display())));
 }
 
-/// Programs in the place of `rt` and `cargo`: they write down how they are called, and `cargo` builds the command unless
-/// it is to fail. The shell writes them, so that no test has them open.
-const TOOLS: &str = r#"
-mkdir -p tools
-cat >tools/rt <<'END'
-#!/bin/sh
-echo "rt $*" >>calls
-END
-cat >tools/cargo <<'END'
-#!/bin/sh
-echo "cargo $*" >>calls
-[ -z "$FAILS" ] || { echo "$FAILS"; exit 1; }
-mkdir -p hosts/rust/target/release
-cp "$BUILT" hosts/rust/target/release/mover-reel
-END
-chmod +x tools/rt tools/cargo
-"#;
-
-/// Runs the script of this folder from its `shots` folder.
-fn run_script(top: &Path, fails: &str, arguments: &[&str]) -> Ended {
-    let mut command = Command::new("sh");
-    command.arg("../mover-reel").args(arguments);
-    command.current_dir(top.join("shots"));
-    command.env("PATH", format!("{}:/usr/bin:/bin", top.join("tools").display()));
-    command.env("BUILT", env!("CARGO_BIN_EXE_mover-reel"));
-    ended(command.env("FAILS", fails).env_remove("MOVER_LIB_DIR"))
-}
-
 /// The script at the top builds the library and the command, but just once, and then is the command.
 #[test]
 fn script_builds_once() {
-    let top = folder("top");
-    let script = Path::new(env!("CARGO_MANIFEST_DIR")).join("../../mover-reel");
-    fs::copy(script, top.join("mover-reel")).expect("the script");
-    fs::create_dir(top.join("shots")).expect("a folder");
-    fs::write(top.join("shots/a.patch"), patch(5)).expect("written");
-    let mut shell = Command::new("sh");
-    assert_eq!(ended(shell.args(["-c", TOOLS]).current_dir(&top)), said(""));
-    let calls = || fs::read_to_string(top.join("calls")).unwrap_or_default();
+    let built = env!("CARGO_BIN_EXE_mover-reel");
+    let script = Script::new("mover-reel", built, "a.patch", &patch(5));
 
-    let (status, output, usage) = run_script(&top, "", &[]);
-    assert_eq!((status, &output[..], calls()), (2, "", String::new()));
-    assert_eq!(run_script(&top, "", &["--help"]), said(&usage));
+    let (status, output, usage) = script.run("", &[]);
+    assert_eq!((status, &output[..]), (2, ""));
+    assert_eq!(script.run("", &["--help"]), said(&usage));
     assert!(usage.contains("--pack FOLDER FILE"), "{usage}");
+    assert_eq!(script.calls(), "");
 
     let pack = ["--pack", ".", "a b.reel"];
-    let (status, output, complaint) = run_script(&top, "no such compiler", &pack);
+    let (status, output, complaint) = script.run("no such compiler", &pack);
     assert_eq!((status, &output[..]), (1, ""));
     assert!(
         complaint.ends_with(" ... failed\nno such compiler\n"),
         "{complaint}"
     );
-    fs::remove_file(top.join("calls")).expect("two calls");
+    assert_eq!(script.calls(), script.building());
 
-    let (status, output, told) = run_script(&top, "", &pack);
+    let (status, output, told) = script.run("", &pack);
     assert_eq!((status, &output[..]), (0, "0  a.patch\n"));
     assert!(told.lines().all(|line| line.ends_with(" ... done")), "{told}");
-    let (library, command) = (
-        "rt staticlib host_calls\n",
-        "cargo build --offline --release --quiet --bin mover-reel --manifest-path hosts/rust/Cargo.toml\n",
-    );
-    assert_eq!(calls(), [library, command].concat());
+    assert_eq!(script.calls(), script.building());
 
-    let (status, output, told) = run_script(&top, "not again", &["a b.reel"]);
+    let (status, output, told) = script.run("not again", &["a b.reel"]);
     assert_eq!((status, &told[..]), (0, ""));
     assert!(
         output.starts_with("images          1\naccepted        1\n"),
         "{output}"
     );
-    assert_eq!(run_script(&top, "", &["a b.reel", "x"]).0, 2);
-    assert_eq!(run_script(&top, "", &["x"]).0, 1);
-    assert_eq!(calls(), [library, command].concat());
+    assert_eq!(script.run("", &["a b.reel", "x"]).0, 2);
+    assert_eq!(script.run("", &["x"]).0, 1);
+    assert_eq!(script.calls(), "");
 }

@@ -1,9 +1,12 @@
-//! The safe wrappers: the same answers as the calls, buffers that are reused, numbers that do not wrap, flow, reports.
+//! The safe wrappers: the same answers as the calls, buffers that are reused, numbers that do not wrap, flow, pages,
+//! reports.
 //!
 //! `MOVER_CASES` and `MOVER_SEED` are as in the differential tests.
 
+use reference::page::page;
 use reference::random::{self, Fault, Random, FAULTS};
 use reference::random_lists::{faulty_lists, sound_problem, ListFault, LIST_FAULTS, SHARED_FAULTS};
+use reference::random_pages::{printable, unprintable, UNPRINTABLE};
 use reference::random_queries::{faulty_query, sound_query, Query, UNASKABLE};
 use reference::random_writer::{accepted, refused, Given, UNWRITABLE};
 use reference::record::Record;
@@ -16,12 +19,12 @@ use std::fmt::Debug;
 use weight_mover::calls::{
     mover_distances, mover_distances_of_records, mover_evaluate, mover_is_optimal, mover_mark_ancestors,
     mover_nearest_vertex, mover_report, mover_solve, mover_to_amounts, mover_to_weights,
-    mover_vertices_within,
+    mover_vertices_within, mover_write_page,
 };
 use weight_mover::{
-    distances_of_records, distances_of_records_into, image_size, mark_ancestors, pack, read, read_into,
-    report, report_by_parts, rewrite, rewrite_into, run, run_into, to_amounts, to_amounts_into, to_weights,
-    to_weights_into, Answer, Distances, Edge, Evaluation, Graph, Patch, Refusal, Report, Tree,
+    distances_of_records, distances_of_records_into, image_size, mark_ancestors, pack, page_size, read,
+    read_into, report, report_by_parts, rewrite, rewrite_into, run, run_into, to_amounts, to_amounts_into,
+    to_weights, to_weights_into, Answer, Distances, Edge, Evaluation, Graph, Patch, Refusal, Report, Tree,
 };
 
 /// The graph of some lists, its edges added in any order and their ends either way.
@@ -768,6 +771,173 @@ fn queries_to_the_last_vertex() {
     assert_eq!(line.nearest_vertex(0, &amounts), Ok(Some(63)));
     assert_eq!(line.nearest_vertex(0, &amounts[1..]), Err(Refusal::TableSize));
     assert_eq!(line.vertices_within(64, 0), Err(Refusal::StartVertex));
+}
+
+/// What the wrappers of pages give: a new page, the buffer with its result, the patch's page and that of the best tree.
+#[derive(Clone, Debug, PartialEq)]
+struct Pages {
+    new: Result<String, Refusal>,
+    into: Result<usize, Refusal>,
+    buffer: Vec<u8>,
+    of_patch: Result<String, Refusal>,
+    of_best: Result<String, Refusal>,
+}
+
+/// With a buffer of so many bytes, all of them dots.
+fn pages_of(patch: &Patch, lists: &Lists, buffer: usize) -> Pages {
+    let Lists {
+        mu,
+        nu,
+        root,
+        parents,
+        ..
+    } = lists;
+    let (graph, mut buffer) = (patch.graph(), vec![b'.'; buffer]);
+    Pages {
+        new: graph.page(mu, nu, *root, parents),
+        into: graph.page_into(mu, nu, *root, parents, &mut buffer),
+        buffer,
+        of_patch: patch.clone().tree(*root, parents).page(),
+        of_best: patch.page(),
+    }
+}
+
+/// The bytes and the length that the call gives, in a buffer of so many dots.
+fn called(lists: &Lists, buffer: usize) -> (u32, Vec<u8>, usize) {
+    let (mut buffer, mut length) = (vec![b'.'; buffer], 9);
+    let number = mover_write_page(
+        lists.n,
+        &lists.a,
+        &lists.b,
+        &lists.lengths,
+        &lists.mu,
+        &lists.nu,
+        lists.root,
+        &lists.parents,
+        &mut buffer,
+        &mut length,
+    );
+    (number, buffer, length)
+}
+
+/// Tests what the wrappers give against the call itself and the best answer.
+fn agree_on_pages(graph: &Graph, lists: &Lists, pages: &Pages) -> Result<(), String> {
+    let whole = page_size(lists.n.min(64));
+    let of = |lists: &Lists| {
+        let (number, bytes, length) = called(lists, whole);
+        Refusal::check(number).map(|_| String::from_utf8(bytes[..length].to_vec()).expect("ASCII"))
+    };
+    let expected = of(lists);
+    same("new", &pages.new, &expected)?;
+    same("of the patch", &pages.of_patch, &expected)?;
+    let (number, bytes, length) = called(lists, pages.buffer.len());
+    same("into", &pages.into, &Refusal::check(number).map(|_| length))?;
+    same("buffer", &pages.buffer, &bytes)?;
+    let best = graph.solve(&lists.mu, &lists.nu).and_then(|best| {
+        of(&Lists {
+            root: 0,
+            parents: best.parents,
+            ..lists.clone()
+        })
+    });
+    same("of the best tree", &pages.of_best, &best)
+}
+
+/// Pages are the call's, with the refusal for its number: new ones, into buffers of any length, of patches.
+#[test]
+fn pages() {
+    let (seed, count) = (seed(), cases(2_000));
+    let mut seen = [0; 11];
+    for index in 0..count {
+        let random = &mut Random::for_case(seed, index);
+        let fault = random.pick(&UNPRINTABLE);
+        let given = match random.below(3) {
+            0 => printable(random),
+            _ => unprintable(random, &[fault]),
+        };
+        let graph = graph(random, &given.lists);
+        let [a, b, lengths] = columns(&graph);
+        let lists = Lists {
+            a,
+            b,
+            lengths,
+            ..given.lists
+        };
+        let edges = graph.iter().map(|e| (e.a, e.b, e.length));
+        let patch = Patch::new(lists.n).edges(edges).mu(&lists.mu).nu(&lists.nu);
+        let pages = pages_of(&patch, &lists, given.buffer);
+        let result = agree_on_pages(&graph, &lists, &pages);
+        result.unwrap_or_else(|complaint| panic!("seed {seed}, case {index}: {complaint}"));
+        let number = pages.into.map_or_else(Refusal::number, |_| 0);
+        assert_eq!(number, page(&lists, given.buffer).err().unwrap_or(0));
+        seen[number as usize] += 1;
+    }
+    println!("pages: seed {seed}, {count} cases, numbers {seen:?}");
+    assert!(count < 1_000 || seen.iter().all(|&times| times > 0), "{seen:?}");
+}
+
+type SpoilPages = fn(&mut Pages);
+
+/// The test above can fail: whatever is spoiled is missed, of what is accepted and of what is refused.
+#[test]
+fn wrong_pages_are_caught() {
+    let edges = [(0, 1, 1), (0, 3, 1), (1, 2, 1), (2, 3, 1)];
+    let graph = Graph::new(4).edges(edges);
+    let [a, b, lengths] = columns(&graph);
+    let accepted = Lists {
+        n: 4,
+        a,
+        b,
+        lengths,
+        mu: vec![4, 0, 0, 0],
+        nu: vec![0, 0, 0, 4],
+        root: 0,
+        parents: vec![0, 0, 1, 2],
+    };
+    let mut refused = accepted.clone();
+    refused.mu[0] = 5;
+    let spoils: [(&str, SpoilPages); 9] = [
+        ("new", |p| p.new = Err(Refusal::TreeEdge)),
+        ("new", |p| {
+            p.new = p.new.clone().map_or(Ok(String::new()), |page| Ok(page + " "))
+        }),
+        ("of the patch", |p| p.of_patch = Ok(String::new())),
+        ("of the patch", |p| p.of_patch = Err(Refusal::TableSize)),
+        ("into", |p| p.into = Ok(0)),
+        ("into", |p| p.into = Err(Refusal::TableSize)),
+        ("buffer", |p| p.buffer[0] ^= 1),
+        ("buffer", |p| p.buffer[399] ^= 1),
+        ("of the best tree", |p| p.of_best = Ok(String::new())),
+    ];
+    for lists in [accepted, refused] {
+        let patch = Patch::new(4).edges(edges).mu(&lists.mu).nu(&lists.nu);
+        let right = pages_of(&patch, &lists, 400);
+        assert_eq!(agree_on_pages(&graph, &lists, &right), Ok(()));
+        for (name, spoil) in spoils {
+            let mut pages = right.clone();
+            spoil(&mut pages);
+            let complaint = agree_on_pages(&graph, &lists, &pages).expect_err(name);
+            assert!(complaint.starts_with(&format!("{name}: ")), "{name}: {complaint}");
+        }
+        if let Ok(page) = &right.new {
+            // The best tree is not the given one.
+            let mut pages = right.clone();
+            pages.of_best = Ok(page.clone());
+            let complaint = agree_on_pages(&graph, &lists, &pages).expect_err("the given tree");
+            assert!(complaint.starts_with("of the best tree: "), "{complaint}");
+        }
+    }
+}
+
+/// A graph of other than 1 to 64 vertices is refused, however large: nothing wraps, and no buffer is made for it.
+#[test]
+fn pages_of_no_graph() {
+    for n in [0, 65, 256 + 1, 1 << 32 | 1, 1 << 59, usize::MAX] {
+        let refusal = Err(Refusal::VertexCount);
+        assert_eq!(Graph::new(n).page(&[0], &[0], 0, &[0]), refusal, "{n}");
+        assert_eq!(Patch::new(n).tree(0, &[0]).page(), refusal, "{n}");
+        assert_eq!(Patch::new(n).page(), refusal, "{n}");
+    }
 }
 
 fn bits(weights: &[f32]) -> Vec<u32> {

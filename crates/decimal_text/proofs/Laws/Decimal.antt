@@ -50,6 +50,15 @@ length-digits (suc k) (suc m) x h =
 pub length-decimal : (m x : ℕ) → x < 10 ^ suc m → length (decimal x) ≤ suc m
 length-decimal = length-digits 20
 
+-- ---- counting the digits, from the last one on: `width` are counted, and those of x are left but for one that every number has
+pub width-more : (width x whole : ℕ) → x < 2 ^ 64 → 9 < x → width + length (decimal x) ≡ whole → width + 1 + length (decimal (x / 10)) ≡ whole
+width-more width x whole h g e =
+    let f = ap length (decimal-step x h (omega arith)) in
+    omega (arith, length-append (decimal (x / 10)) ((48 + x % 10) ∷ []))
+
+pub width-end : (width x whole : ℕ) → x ≤ 9 → width + length (decimal x) ≡ whole + 1 → width ≡ whole
+width-end width x whole h e = let f = ap length (decimal-last x (omega arith)) in omega arith
+
 module _ (from x : ℕ) (l : List ℕ) where
   pub last-room : x < 10 → from + length (decimal x) ≤ length l → from < length l
   last-room h room = let e = ap length (decimal-last x h) in omega arith

@@ -24,6 +24,13 @@ wrote-then {from} {at} {r} {s} {t} {l} {m} {o} h v w =
       out-is = placed-then from at s t l m o (omega (arith, v .next-is)) (v .next-is) (v .out-is) (w .out-is);
     }
 
+pub wrote-same : {from r : ℕ} {s t l o : List ℕ} → s ≡ t → Wrote from s l o r → Wrote from t l o r
+wrote-same e w = rw e at w
+
+-- where the two ways of a branch have met
+pub wrote-met : {from r r' : ℕ} {s l o o' : List ℕ} → o' ≡ o → r' ≡ r → Wrote from s l o r → Wrote from s l o' r'
+wrote-met e f w = record { next-is = f ∙ w .next-is; out-is = e ∙ w .out-is }
+
 -- from the front
 pub wrote-front : {r : ℕ} {s l o : List ℕ} → Wrote 0 s l o r → (o ≡ written 0 s l) × (r ≡ length s)
 wrote-front {r} {s} {l} {o} w = (w .out-is ∙ placed-front s l, omega (arith, w .next-is))

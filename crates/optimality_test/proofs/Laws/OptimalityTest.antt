@@ -19,7 +19,8 @@ use Rattle.spanning_tree.specs.TreeValue.{parentsHeld}
 use Rattle.given_tree.specs.Given.{Given}
 use Rattle.given_tree.specs.Steps.Given.{GivenChecked}
 use Rattle.given_tree.proofs.Laws.Given.{given-accepted}
-use Rattle.tree_evaluation.proofs.Laws.GivenTree.{given-evaluable, given-cost}
+use Rattle.tree_figures.specs.Figures.{treeCost}
+use Rattle.tree_evaluation.proofs.Laws.GivenTree.{given-evaluable, given-holds}
 use Rattle.duality.specs.BestCost.{bestCost}
 use Rattle.network_simplex.specs.Steps.Search.{BestTree}
 use Rattle.transport_problem.specs.Steps.TransportProblem.{Painting, TransportProblem}
@@ -70,7 +71,9 @@ module _ {g : Graph} {w : Given} {k : ℕ} {above above' first edge : List ℕ} 
       module _ {cost least : ℕ} (costs : CostOf n r parents above' (w .mu) (w .nu) cost) (best : least ≡ bestCost g (at (w .mu)) (at (w .nu))) where
         tested : {optimal : ℕ} → optimal ≡ pick (eqb cost least) 1 → OptimalityTested g w 0 optimal
         tested e =
-            let given-is = given-cost (given-accepted checked z) (checked .lengths z) held (costs (g .lower) (g .upper) (g .lengths)) in
+            let given-is =
+            given-holds (given-accepted checked z) (checked .lengths z) held (λ h s p. cost ≡ treeCost h s p (at (w .mu)) (at (w .nu)))
+            (costs (g .lower) (g .upper) (g .lengths)) in
             record { refusal = sym z ∙ number; optimal-is = rw (← given-is, ← best) e }
 
         pub tested-best : cost ≡ least → OptimalityTested g w 0 1

@@ -1,6 +1,6 @@
 -- The mass of a subtree, and summation by parts on a tree.
 use mathlib.Core.Path.{_≡_, sym, ap, _∙_}
-use mathlib.Core.Bool.{Bool, true, false, not}
+use mathlib.Core.Bool.{Bool, true, false, not, cond}
 use Prim.Native.Nat.{ℕ, _+_, _*_, _≤_, _<_}
 use native.Mathlib.Nat.{mul-comm, mul-zero, mul-add}
 use native.Mathlib.Omega.{arith}
@@ -8,15 +8,29 @@ use lib.Dec.{eqb}
 use borrow.Author.Tests.{ne-eqb}
 use Rattle.arithmetic.specs.Sum.{pick, sum}
 use Rattle.arithmetic.proofs.Laws.Bools.{case≡, eqb-self}
-use Rattle.arithmetic.proofs.Laws.Sum.{pick-le, pick-mul, sum-ext, sum-le, sum-add, sum-mul, sum-swap, sum-only}
-use Rattle.rooted_tree.specs.Chain.{below}
+use Rattle.arithmetic.proofs.Laws.Sum.{pick-le, pick-mul, sum-ext, sum-le, sum-le-mul, sum-add, sum-mul, sum-swap, sum-change, sum-only}
+use Rattle.rooted_tree.specs.Chain.{below, isChild}
 use Rattle.rooted_tree.specs.Steps.Rooted.{Rooted, pathSum}
-use Rattle.rooted_tree.specs.Steps.Subtotal.{subtotal, inner, isChild}
+use Rattle.rooted_tree.specs.Steps.Subtotal.{subtotal, inner}
 use Rattle.rooted_tree.proofs.Laws.Rooted.{tree-ind, at-root, at-step, refl-b, all-b, parent-out, path-sum-root, path-sum-step}
 
 -- what holds its value at every vertex but the root
 pub inner-ext : (n r : ℕ) (f g : ℕ → ℕ) → ((x : ℕ) → x < n → (x ≡ r → ⊥) → f x ≡ g x) → (x : ℕ) → x < n → inner r x (f x) ≡ inner r x (g x)
 inner-ext n r f g h x l = case≡ x r (λ e. rw (e, eqb-self r)) (λ d. rw (h x l d))
+
+-- n - 1 vertices of at most `most` each
+pub inner-most : (n r most : ℕ) (f : ℕ → ℕ) → r < n → ((x : ℕ) → x < n → f x ≤ most) → sum n (λ x. inner r x (f x)) + most ≤ n * most
+inner-most n r most f h each =
+    let full : ℕ → ℕ = λ x. cond (eqb x r) most (f x) in
+    let none : inner r r (f r) ≡ 0 = rw (eqb-self r) in
+    let all : full r ≡ most = rw (eqb-self r) in
+    omega (
+      arith,
+      sum-change n r (λ x. inner r x (f x)) full h (λ x _ d. rw (ne-eqb x r d)),
+      sum-le-mul n most full (λ x l. case≡ x r (λ e. rw (e, eqb-self r) (omega arith)) (λ d. rw (ne-eqb x r d) (each x l))),
+      none,
+      all,
+    )
 
 -- it is at most the total
 pub subtotal-le : (p : ℕ → ℕ) (n : ℕ) (m : ℕ → ℕ) (x : ℕ) → subtotal p n m x ≤ sum n m

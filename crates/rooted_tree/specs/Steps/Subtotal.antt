@@ -1,5 +1,5 @@
 -- The mass of a subtree, and summation by parts on a tree.
-use mathlib.Core.Bool.{Bool, not, _&&_}
+use mathlib.Core.Bool.{not}
 use Prim.Native.Nat.{ℕ}
 use lib.Dec.{eqb}
 use Rattle.arithmetic.specs.Sum.{pick, sum}
@@ -12,7 +12,3 @@ subtotal p n m x = sum n (λ y. pick (below p n y x) (m y))
 -- v at every vertex but the root r
 abbrev pub inner : ℕ → ℕ → ℕ → ℕ
 inner r x v = pick (not (eqb x r)) v
-
--- c is a child of z
-abbrev pub isChild : ℕ → (ℕ → ℕ) → ℕ → ℕ → Bool
-isChild r p z c = not (eqb c r) && eqb (p c) z

@@ -22,9 +22,9 @@ use Rattle.arithmetic.proofs.Laws.Sum.{sum-ext, sum-le, sum-change, sum-zeros}
 use Rattle.vertex_set.specs.Lowest.{lowest}
 use Rattle.vertex_set.specs.Steps.Sets.{Depths}
 use Rattle.vertex_set.proofs.Laws.Without.{Without, without-lowest}
-use Rattle.rooted_tree.specs.Chain.{below, depth}
+use Rattle.rooted_tree.specs.Chain.{below, depth, isChild}
 use Rattle.rooted_tree.specs.Steps.Rooted.{Rooted}
-use Rattle.rooted_tree.specs.Steps.Subtotal.{subtotal, isChild}
+use Rattle.rooted_tree.specs.Steps.Subtotal.{subtotal}
 use Rattle.rooted_tree.proofs.Laws.Rooted.{depth-root, depth-step, depth-lt}
 use Rattle.rooted_tree.proofs.Laws.Subtotal.{subtotal-le, subtotal-children}
 use Rattle.subtree_sums.specs.Steps.Sums.{Light, Layered}

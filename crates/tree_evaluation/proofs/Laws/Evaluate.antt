@@ -19,32 +19,50 @@ use Rattle.given_tree.specs.Given.{Given, answersOk}
 use Rattle.given_tree.specs.Steps.Given.{GivenChecked}
 use Rattle.given_tree.proofs.Laws.Given.{GivenAccepted, given-passed, given-accepted, room-in}
 use Rattle.plan_rule.specs.Plan.{plan, moves}
-use Rattle.tree_figures.specs.Figures.{imbalance, potential}
+use Rattle.tree_figures.specs.Figures.{imbalance, potential, treeCost}
 use Rattle.tree_figures.specs.Steps.Tables.{Short, LengthsTo, Moderate, costFrom, potentialFrom}
 use Rattle.tree_figures.proofs.Laws.Figure.{imbalance-moderate, imbalance-table, cost-table, potential-table}
 use Rattle.tree_evaluation.specs.Evaluate.{evaluateRefusal, Evaluated}
-use Rattle.tree_evaluation.specs.Steps.EvaluateTree.{Evaluable, TreeEvaluated}
-use Rattle.tree_evaluation.proofs.Laws.GivenTree.{given-evaluable, given-value, given-same}
+use Rattle.tree_evaluation.specs.Steps.EvaluateTree.{Weighted, Evaluable, TreeEvaluated}
+use Rattle.tree_evaluation.proofs.Laws.GivenTree.{given-weighted, given-evaluable, given-holds, given-same}
 
 -- ---- an accepted tree
 
--- its value follows from the lengths l to the parents and the masses a and b of mu and nu below each vertex
-module _ (g : Graph) (r : ℕ) (p mu nu l : ℕ → ℕ) (lengths : LengthsTo g r p l) where
-  pub tree-evaluated : {a a' b b' : List ℕ} {imbalances imbalances' : List ℤ} {entries entries' : List ℕ} {cost moved : ℕ}
-      → Filled (g .n) (subtotal p (g .n) mu) a a' → Filled (g .n) (subtotal p (g .n) nu) b b'
-      → imbalances' ≡ tab (g .n) (λ x. subℕ (at a' x) (at b' x)) ++ drop (g .n) imbalances
-      → cost ≡ costFrom (g .n) r l (at a') (at b')
-      → (entries' ≡ matrix (g .n) (plan (g .n) r p mu nu) ++ drop (g .n * g .n) entries) × (moved ≡ moves (g .n) (plan (g .n) r p mu nu))
-      → TreeEvaluated g r p mu nu imbalances entries cost moved imbalances' entries'
-  tree-evaluated {a} {a'} {b} {b'} {imbalances} m v i c e = record {
-    cost-is = c ∙ cost-table g r p mu nu l lengths (at a') (at b') (m .each) (v .each);
-    moves-are = e .1;
-    imbalance-is =
-        i ∙ ap (λ (z : List ℤ). z ++ drop (g .n) imbalances) (imbalance-table g r p mu nu l lengths (at a') (at b') (m .each) (v .each));
-    plan-is = e .0;
-  }
+-- its imbalances, its cost, and its plan
+pub tree-evaluated : {g : Graph} {r : ℕ} {p mu nu : ℕ → ℕ} {imbalances imbalances' : List ℤ} {entries entries' : List ℕ} {cost moved : ℕ}
+    → imbalances' ≡ tab (g .n) (imbalance (g .n) p mu nu) ++ drop (g .n) imbalances → cost ≡ treeCost g r p mu nu
+    → (entries' ≡ matrix (g .n) (plan (g .n) r p mu nu) ++ drop (g .n * g .n) entries) × (moved ≡ moves (g .n) (plan (g .n) r p mu nu))
+    → TreeEvaluated g r p mu nu imbalances entries cost moved imbalances' entries'
+tree-evaluated i c e = record { cost-is = c; moves-are = e .1; imbalance-is = i; plan-is = e .0 }
 
-  -- and so does its potential, from the words and the imbalances
+-- the imbalances follow from the masses a and b of mu and nu below each vertex
+pub imbalances-found : (n : ℕ) (p mu nu : ℕ → ℕ) {a a' b b' : List ℕ} (imbalances : List ℤ) {imbalances' : List ℤ}
+    → Filled n (subtotal p n mu) a a' → Filled n (subtotal p n nu) b b' → imbalances' ≡ tab n (λ x. subℕ (at a' x) (at b' x)) ++ drop n imbalances
+    → imbalances' ≡ tab n (imbalance n p mu nu) ++ drop n imbalances
+imbalances-found n p mu nu {a' = a'} {b' = b'} imbalances m v i =
+    i ∙ ap (λ (z : List ℤ). z ++ drop n imbalances) (imbalance-table n p mu nu (at a') (at b') (m .each) (v .each))
+
+-- and are moderate, so that the potential can be found
+pub potential-asked : {n r u : ℕ} {parents above mu nu old words : List ℕ} {imbalances imbalances' : List ℤ}
+    → Weighted n r parents above mu nu imbalances → Filled n (λ x. mask n (λ y. below (at parents) n y x)) old words → n ≤ length old
+    → imbalances' ≡ tab n (imbalance n (at parents) (at mu) (at nu)) ++ drop n imbalances → n ≤ u
+    → ((n ≤ 64) × (n ≤ u)) × ((VertexSets n words × ((n ≤ length above) × (n ≤ length imbalances')))
+    × (Short n r (at above) × Moderate n imbalances'))
+potential-asked {n} {r} {u} {parents} {above} {mu} {nu} {old} {words} {imbalances} {imbalances'} t gathered long i room =
+    let moderate : Moderate n imbalances'
+    = λ x l.
+    rw (i, front-at n (imbalance n (at parents) (at mu) (at nu)) imbalances (pos 0) x l)
+    (imbalance-moderate n (at parents) (at mu) (at nu) x (omega (arith, t .measures .total-mu)) (omega (arith, t .measures .total-nu))) in
+    let kept = ap length i ∙ front-length n _ imbalances (t .room-imbalance) in
+    ((t .few, room), ((words-sets n (at parents) gathered long, (t .long-above, omega (arith, t .room-imbalance, kept))), (t .short, moderate)))
+
+-- the cost follows from the lengths l to the parents too,
+module _ (g : Graph) (r : ℕ) (p mu nu l : ℕ → ℕ) (lengths : LengthsTo g r p l) where
+  pub cost-found : {a a' b b' : List ℕ} {cost : ℕ} → Filled (g .n) (subtotal p (g .n) mu) a a' → Filled (g .n) (subtotal p (g .n) nu) b b'
+      → cost ≡ costFrom (g .n) r l (at a') (at b') → cost ≡ treeCost g r p mu nu
+  cost-found {a' = a'} {b' = b'} m v c = c ∙ cost-table g r p mu nu l lengths (at a') (at b') (m .each) (v .each)
+
+  -- and the potential from the words and the imbalances
   pub potential-from : (imbalances potentials : List ℤ) {imbalances' potentials' : List ℤ} {old words : List ℕ}
       → Filled (g .n) (λ x. mask (g .n) (λ y. below p (g .n) y x)) old words
       → imbalances' ≡ tab (g .n) (imbalance (g .n) p mu nu) ++ drop (g .n) imbalances
@@ -87,19 +105,17 @@ module _ {g : Graph} {w : Given} (imbalances : List ℤ) (u : ℕ) (entries : Li
       → TreeEvaluated (graph n (g .lower) (g .upper) (g .lengths)) r (at parents) (at (w .mu)) (at (w .nu))
       imbalances entries cost moved imbalances' entries') where
     value : TreeEvaluated g (w .root) (at (w .parents)) (at (w .mu)) (at (w .nu)) imbalances entries cost moved imbalances' entries'
-    value = given-value accepted (checked .lengths z) held promise
+    value =
+        given-holds accepted (checked .lengths z) held
+        (λ h s p. TreeEvaluated h s p (at (w .mu)) (at (w .nu)) imbalances entries cost moved imbalances' entries') promise
 
-    pub potential-asked : 64 ≤ length above → 64 ≤ length old
+    pub evaluate-asked : 64 ≤ length above → 64 ≤ length old
         → ((n ≤ 64) × (n ≤ u)) × ((VertexSets n words × ((n ≤ length above') × (n ≤ length imbalances')))
         × (Short n r (at above') × Moderate n imbalances'))
-    potential-asked room long =
-        let e = evaluable room in
-        let kept = ap length (value .imbalance-is) ∙ front-length (g .n) _ imbalances (rooms .0) in
-        let moderate : Moderate n imbalances'
-        = λ x l.
-        rw (value .imbalance-is, front-at (g .n) (imbalance (g .n) (at (w .parents)) (at (w .mu)) (at (w .nu))) imbalances (pos 0) x (omega (arith, held .0)))
-        (imbalance-moderate (g .n) (at (w .parents)) (at (w .mu)) (at (w .nu)) x (omega (arith, accepted .problem .before .light)) (omega (arith, accepted .problem .after .light))) in
-        ((e .few, omega (arith, rooms .1 .0, held .0)), ((words-sets n (at parents) gathered (omega (arith, e .few, long)), (e .long-above, omega (arith, e .room-imbalance, kept))), (e .short, moderate)))
+    evaluate-asked room long =
+        let e = given-weighted accepted (checked .lengths z) held room {imbalances = imbalances} (rooms .0) in
+        potential-asked {imbalances' = imbalances'} e gathered (omega (arith, e .few)) (rw (held .0, given-same accepted (checked .lengths z) held) (value .imbalance-is))
+        (omega (arith, rooms .1 .0, held .0))
 
     pub evaluate-done : {potentials potentials' : List ℤ} → u ≡ length potentials
         → potentials' ≡ tab n (potentialFrom n r (at words) (at above') (λ x. getD imbalances' x (pos 0))) ++ drop n potentials

@@ -18,9 +18,8 @@ use Rattle.given_tree.specs.Given.{Given}
 use Rattle.spanning_tree.proofs.Laws.TreeValue.{held-same}
 use Rattle.given_tree.proofs.Laws.Given.{GivenAccepted}
 use Rattle.transport_plan.specs.Steps.PlanSteps.{Measures}
-use Rattle.tree_figures.specs.Figures.{treeCost}
 use Rattle.tree_figures.specs.Steps.Tables.{Short, LengthsTo}
-use Rattle.tree_evaluation.specs.Steps.EvaluateTree.{Evaluable, TreeEvaluated}
+use Rattle.tree_evaluation.specs.Steps.EvaluateTree.{Weighted, Evaluable}
 
 -- two paintings, for a tree of as many vertices
 pub measures-of : {n k s t : ℕ} {mu nu : List ℕ} → n ≡ k → Painting k s mu → Painting k t nu → Measures n mu nu
@@ -49,32 +48,37 @@ module _ {g : Graph} {w : Given} (accepted : GivenAccepted g w) {above above' : 
     edgeLength-most g (accepted .problem .accepted .edges) (accepted .problem .accepted .lengths) x (at (w .parents) x),
   )
 
-  pub given-evaluable : 64 ≤ length above → {imbalances : List ℤ} {entries : List ℕ} → g .n ≤ length imbalances → g .n * g .n ≤ length entries
-      → Evaluable n r parents above' (w .mu) (w .nu) imbalances entries
-  given-evaluable long i e = record {
+  pub given-weighted : 64 ≤ length above → {imbalances : List ℤ} → g .n ≤ length imbalances → Weighted n r parents above' (w .mu) (w .nu) imbalances
+  given-weighted long i = record {
     few = omega (arith, few, held .0);
     tree = given-rooted;
     long-above = omega (arith, few, held .0, sized .size);
     short = given-short;
     measures = measures-of (held .0) (accepted .problem .before) (accepted .problem .after);
     room-imbalance = omega (arith, i, held .0);
-    room-plan = rw (held .0) e;
   }
+
+  pub given-evaluable : 64 ≤ length above → {imbalances : List ℤ} {entries : List ℕ} → g .n ≤ length imbalances → g .n * g .n ≤ length entries
+      → Evaluable n r parents above' (w .mu) (w .nu) imbalances entries
+  given-evaluable long {imbalances} i e =
+      let t = given-weighted long {imbalances = imbalances} i in
+      record {
+        few = t .few;
+        tree = t .tree;
+        long-above = t .long-above;
+        short = t .short;
+        measures = t .measures;
+        room-imbalance = t .room-imbalance;
+        room-plan = rw (held .0) e;
+      }
 
   lengths : LengthsTo (graph n (g .lower) (g .upper) (g .lengths)) r (at parents) (at above')
   lengths x l d =
       rw (held .0)
       (sized .each x (omega (arith, held .0)) (omega (arith, held .1 .0)) ∙ ap (edgeLength g x) (sym (ap (λ (f : ℕ → ℕ). f x) given-same)))
 
-  pub given-value : {imbalances imbalances' : List ℤ} {entries entries' : List ℕ} {cost moved : ℕ}
-      → (LengthsTo (graph n (g .lower) (g .upper) (g .lengths)) r (at parents) (at above')
-      → TreeEvaluated (graph n (g .lower) (g .upper) (g .lengths)) r (at parents) (at (w .mu)) (at (w .nu))
-      imbalances entries cost moved imbalances' entries')
-      → TreeEvaluated g (w .root) (at (w .parents)) (at (w .mu)) (at (w .nu)) imbalances entries cost moved imbalances' entries'
-  given-value promise = rw (held .0, held .1 .0, given-same) at (promise lengths)
-
-  pub given-cost : {cost : ℕ}
-      → (LengthsTo (graph n (g .lower) (g .upper) (g .lengths)) r (at parents) (at above')
-      → cost ≡ treeCost (graph n (g .lower) (g .upper) (g .lengths)) r (at parents) (at (w .mu)) (at (w .nu)))
-      → cost ≡ treeCost g (w .root) (at (w .parents)) (at (w .mu)) (at (w .nu))
-  given-cost promise = rw (held .0, held .1 .0, given-same) at (promise lengths)
+  -- what holds of the tree by value on every graph with these lengths holds of the tree and the graph that were lent
+  pub given-holds : (P : Graph → ℕ → (ℕ → ℕ) → Type 0)
+      → (LengthsTo (graph n (g .lower) (g .upper) (g .lengths)) r (at parents) (at above') → P (graph n (g .lower) (g .upper) (g .lengths)) r (at parents))
+      → P g (w .root) (at (w .parents))
+  given-holds P promise = rw (held .0, held .1 .0, given-same) at (promise lengths)

@@ -2,7 +2,7 @@ use mathlib.Core.Path.{refl}
 use native.Mathlib.Omega.{arith}
 use borrow.Author.Needs.{needs}
 use Rattle.given_tree.proofs.Laws.Given.{given-answers}
-use Rattle.tree_evaluation.proofs.Laws.Evaluate.{evaluate-refused, evaluable, potential-asked, evaluate-done}
+use Rattle.tree_evaluation.proofs.Laws.Evaluate.{evaluate-refused, evaluable, evaluate-asked, evaluate-done}
 use Rattle.tree_evaluation.proofs.evaluate.Statement.{statement}
 use Rattle.tree_evaluation.proofs.evaluate.Tie as tie
 
@@ -28,7 +28,7 @@ write-potential-requires c κs =
     let e : tie.Else1 = search in
     let k : tie.After-given-refusal = search in
     let r : tie.After-has-room = search in
-    potential-asked _ _ _ (given-answers (r .has-room .ensures) (k .given-refusal .ensures)) (e .if1 .left) (m .new .ensures) (v .evaluate-tree .ensures .0) (v .evaluate-tree .ensures .1 _ _ _) (omega arith) (omega arith)
+    evaluate-asked _ _ _ (given-answers (r .has-room .ensures) (k .given-refusal .ensures)) (e .if1 .left) (m .new .ensures) (v .evaluate-tree .ensures .0) (v .evaluate-tree .ensures .1 _ _ _) (omega arith) (omega arith)
 
 returns-2 : tie.Need-returns-2
 returns-2 c =

@@ -12,7 +12,16 @@ use Rattle.transport_plan.specs.Steps.PlanSteps.{Measures}
 use Rattle.tree_figures.specs.Figures.{imbalance, treeCost}
 use Rattle.tree_figures.specs.Steps.Tables.{Short}
 
--- a tree with n vertices, the root r and the lengths above its vertices, two paintings, and room for the answers
+-- a tree with n vertices, the root r and the lengths above its vertices, two paintings, and room for the imbalances
+pub record Weighted (n r : ℕ) (parents above mu nu : List ℕ) (imbalances : List ℤ) : Type 0 where
+  pub few : n ≤ 64
+  pub tree : Rooted n r (at parents)
+  pub long-above : n ≤ length above
+  pub short : Short n r (at above)
+  pub measures : Measures n mu nu
+  pub room-imbalance : n ≤ length imbalances
+
+-- the same with room for a plan
 pub record Evaluable (n r : ℕ) (parents above mu nu : List ℕ) (imbalances : List ℤ) (entries : List ℕ) : Type 0 where
   pub few : n ≤ 64
   pub tree : Rooted n r (at parents)

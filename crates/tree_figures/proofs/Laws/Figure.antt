@@ -2,14 +2,13 @@
 -- it rises by above a vertex less what it falls by. So they follow from tables.
 use Prim.Native.Nat.{ℕ, zero, suc, _+_, _*_, _^_, _≤_, _<_}
 use mathlib.Core.Path.{_≡_, refl, sym, ap, _∙_}
-use mathlib.Core.Bool.{Bool, true, false, not, cond, _&&_}
+use mathlib.Core.Bool.{Bool, true, false, not, _&&_}
 use mathlib.Core.List.{List}
 use native.Mathlib.Nat.{mul-le-mul, mul-le-mul-right}
 use native.Mathlib.Omega.{arith}
 use lib.Dec.{eqb}
 use lib.ListN.{length}
 use lib.Signed.{mag}
-use borrow.Author.Tests.{ne-eqb}
 use lib.IntN.{ℤ, pos, negsuc, natAbs, subℕ, _*ℤ_}
 use Rattle.arithmetic.specs.Sum.{pick, sum}
 use Rattle.arithmetic.specs.Table.{at, tab}
@@ -18,15 +17,15 @@ use Rattle.arithmetic.specs.Steps.Fill.{Filled}
 use Rattle.arithmetic.specs.Integer.{pickℤ}
 use Rattle.arithmetic.specs.Steps.Product.{gap}
 use Rattle.arithmetic.proofs.Laws.Bools.{case≡, eqb-self}
-use Rattle.arithmetic.proofs.Laws.Sum.{pick-zero, pick-le, sum-nil, sum-step, sum-ext, sum-le-mul, sum-change}
+use Rattle.arithmetic.proofs.Laws.Sum.{pick-zero, pick-le, sum-nil, sum-step, sum-ext, sum-le-mul}
 use Rattle.arithmetic.proofs.Laws.Table.{tab-ext}
 use Rattle.arithmetic.proofs.Laws.Integer.{sub-cong, abs-sub, mag-sub-lt, sumℤ-ext, sumℤ-sub, pickℤ-sub, sub-zero, zero-sub}
 use Rattle.rooted_tree.specs.Chain.{below}
 use Rattle.rooted_tree.specs.Steps.Subtotal.{subtotal, inner}
 use Rattle.rooted_tree.specs.Steps.Flow.{flowCost}
 use Rattle.rooted_tree.specs.Steps.Potential.{lengthsWhere}
-use Rattle.rooted_tree.proofs.Laws.Subtotal.{subtotal-le, inner-ext}
-use Rattle.rooted_tree.proofs.Laws.Climb.{climbed-ext}
+use Rattle.rooted_tree.proofs.Laws.Subtotal.{subtotal-le, inner-ext, inner-most}
+use Rattle.rooted_tree.proofs.Laws.Climb.{climbed-le, climbed-ext}
 use Rattle.subtree_sums.specs.Steps.Sums.{holderSum, Slopes, Heights}
 use Rattle.subtree_sums.proofs.Laws.Heights.{holders-most, holders-ext, words-above}
 use Rattle.graph.specs.Graph.{Graph}
@@ -75,17 +74,17 @@ one-sign (pos (suc k)) b v h = pick-zero b
 one-sign (negsuc k) b v h = absurd (omega (arith, h, pick-zero b))
 
 -- ---- the same from tables
-module _ (g : Graph) (r : ℕ) (p mu nu l : ℕ → ℕ) (lengths : LengthsTo g r p l) where
-  module _ (a b : ℕ → ℕ) (mu-below : (x : ℕ) → x < g .n → a x ≡ subtotal p (g .n) mu x)
-      (nu-below : (x : ℕ) → x < g .n → b x ≡ subtotal p (g .n) nu x) where
-    pub imbalance-table : tab (g .n) (λ x. subℕ (a x) (b x)) ≡ tab (g .n) (imbalance (g .n) p mu nu)
-    imbalance-table = tab-ext (g .n) _ _ (λ x h. rw (mu-below x h, nu-below x h) (sym (imbalance-sub (g .n) p mu nu x)))
+module _ (n : ℕ) (p mu nu a b : ℕ → ℕ) (mu-below : (x : ℕ) → x < n → a x ≡ subtotal p n mu x) (nu-below : (x : ℕ) → x < n → b x ≡ subtotal p n nu x) where
+  pub imbalance-table : tab n (λ x. subℕ (a x) (b x)) ≡ tab n (imbalance n p mu nu)
+  imbalance-table = tab-ext n _ _ (λ x h. rw (mu-below x h, nu-below x h) (sym (imbalance-sub n p mu nu x)))
 
-    pub cost-table : costFrom (g .n) r l a b ≡ treeCost g r p mu nu
-    unfolding flowCost
-    cost-table =
-        sum-ext (g .n) _ _ (inner-ext (g .n) r _ _ (λ x h d. rw (lengths x h d, mu-below x h, nu-below x h)))
-        ∙ sym (treeCost-flow g r p mu nu)
+module _ (g : Graph) (r : ℕ) (p mu nu l : ℕ → ℕ) (lengths : LengthsTo g r p l) where
+  pub cost-table : (a b : ℕ → ℕ) → ((x : ℕ) → x < g .n → a x ≡ subtotal p (g .n) mu x) → ((x : ℕ) → x < g .n → b x ≡ subtotal p (g .n) nu x)
+      → costFrom (g .n) r l a b ≡ treeCost g r p mu nu
+  unfolding flowCost
+  cost-table a b mu-below nu-below =
+      sum-ext (g .n) _ _ (inner-ext (g .n) r _ _ (λ x h d. rw (lengths x h d, mu-below x h, nu-below x h)))
+      ∙ sym (treeCost-flow g r p mu nu)
 
   pub potential-table : {old words : List ℕ} → Filled (g .n) (λ x. mask (g .n) (λ y. below p (g .n) y x)) old words
       → (z : ℕ → ℤ) → ((x : ℕ) → x < g .n → z x ≡ imbalance (g .n) p mu nu x)
@@ -175,21 +174,29 @@ pub treeCost-most : (g : Graph) (r : ℕ) (p mu nu : ℕ → ℕ) (long total : 
 unfolding flowCost
 treeCost-most g r p mu nu long total h short before after =
     let carried : ℕ → ℕ = λ x. gap (subtotal p (g .n) mu x) (subtotal p (g .n) nu x) in
-    let f : ℕ → ℕ = λ x. inner r x (toParent g p x * carried x) in
-    let full : ℕ → ℕ = λ x. cond (eqb x r) (long * total) (f x) in
-    let at-root : f r ≡ 0 = rw (eqb-self r) in
-    let full-root : full r ≡ long * total = rw (eqb-self r) in
-    let each : (x : ℕ) → x < g .n → full x ≤ long * total
-    = λ x l.
-    let light : carried x ≤ total = omega (arith, subtotal-le p (g .n) mu x, subtotal-le p (g .n) nu x) in
-    case≡ x r
-    (λ e. rw (e, eqb-self r) (omega arith))
-    (λ d. rw (ne-eqb x r d) (mul-le-mul (short x l) light)) in
     omega (
       arith,
       treeCost-flow g r p mu nu,
-      sum-change (g .n) r f full h (λ x _ d. rw (ne-eqb x r d)),
-      sum-le-mul (g .n) (long * total) full each,
-      at-root,
-      full-root,
+      inner-most (g .n) r (long * total) (λ x. toParent g p x * carried x) h (λ x l.
+          let light : carried x ≤ total = omega (arith, subtotal-le p (g .n) mu x, subtotal-le p (g .n) nu x) in
+          mul-le-mul (short x l) light),
     )
+
+-- an imbalance is at most the total, either way,
+pub imbalance-most : (n : ℕ) (p mu nu : ℕ → ℕ) (x total : ℕ) → sum n mu ≤ total → sum n nu ≤ total → natAbs (imbalance n p mu nu x) ≤ total
+imbalance-most n p mu nu x total before after =
+    rw (imbalance-sub n p mu nu x, abs-sub) (omega (arith, subtotal-le p n mu x, subtotal-le p n nu x))
+
+-- and a potential n - 1 lengths
+pub potential-most : (g : Graph) (r : ℕ) (p mu nu : ℕ → ℕ) (y long : ℕ) → r < g .n → ((x : ℕ) → x < g .n → toParent g p x ≤ long)
+    → natAbs (potential g r p mu nu y) + long ≤ g .n * long
+potential-most g r p mu nu y long h short =
+    let most : (t : ℤ → Bool) → lengthsWhere (g .n) r p (toParent g p) (λ x. t (imbalance (g .n) p mu nu x)) y + long ≤ g .n * long
+    = λ t.
+    let up : ℕ → ℕ = λ x. pick (t (imbalance (g .n) p mu nu x)) (toParent g p x) in
+    omega (
+      arith,
+      climbed-le (g .n) r p up y,
+      inner-most (g .n) r long up h (λ x l. omega (arith, pick-le (t (imbalance (g .n) p mu nu x)) (toParent g p x), short x l)),
+    ) in
+    rw (potential-sub g r p mu nu y, abs-sub) (omega (arith, most rises, most falls))

@@ -46,12 +46,16 @@ use Rattle.cost_sheet.specs.Sheet.{countOf, costSum, greatestCost, firstGreates
 use Rattle.image_sequence.specs.Sequence.{sequenceOk}
 use Rattle.sequence_report.specs.Report.{reportRefusal}
 use Rattle.decimal_text.specs.Decimal.{digits}
+use Rattle.page_line.specs.Line.{spaces, twoDigits, upTo, rightAligned, vertexLine}
+use Rattle.preorder.specs.Preorder.{preorder, lines, page}
+use Rattle.tree_page.specs.Page.{pageRefusal}
 use Rattle.listing_lines.specs.Lines.{entryLine, rowLines, planLines}
 use Rattle.listing.specs.Listing.{listing, evaluatedListing}
 use Rattle.worked_cases.specs.Figures.{sames, certifies, holds, reads, every}
 use Rattle.worked_cases.specs.Cases.{image-b, cases, images}
 use Rattle.worked_cases.specs.Marks.{marked, mark-cases}
 use Rattle.worked_cases.specs.Images.{writes, rewrites, write-cases, rewrite-cases}
+use Rattle.worked_cases.specs.Pages.{inColumns, lineRead, prints, page-cases}
 use Rattle.worked_cases.specs.Queries.{reaches, finds, within-cases, nearest-cases}
 use Rattle.worked_cases.specs.Reports.{reports, report-cases}
 use Rattle.worked_cases.specs.Weights.{turnsIn, turnsOut, weight-cases, amount-cases}
@@ -89,3 +93,8 @@ queries-answered = refl
 pub reports-told : every reports report-cases ≡ true
 unfolding all any sum sumℤ tab climb below joined edgeLength refusal verticesOk listsFit edgeFits lengthFits reached connected edgeChecks totalOk totalsEqual parentsOk treeEdgesOk chainsOk measureChecks treeChecks imbalance treeCost flatMap least parentTables costs bestCost lowest two sizeOk pairOk layoutOk imageChecks answerRefusal countOf costSum greatestCost firstGreatest sequenceOk reportRefusal sames every reports
 reports-told = refl
+
+-- and its pages
+pub pages-printed : every prints page-cases ≡ true
+unfolding all any sum sumℤ tab appended climb below depth joined edgeLength refusal verticesOk listsFit edgeFits lengthFits reached connected sizeChecks edgeChecks totalOk totalsEqual parentsOk treeEdgesOk chainsOk measureChecks treeChecks measuresLong parentsLong imbalance potential digits spaces twoDigits upTo rightAligned vertexLine preorder lines page pageRefusal sames every inColumns lineRead prints
+pages-printed = refl

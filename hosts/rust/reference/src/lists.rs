@@ -1,6 +1,7 @@
 //! The arguments of the calls over tables: which are accepted, and the refusal numbers of the others.
 
 use crate::checks::{check_graph, check_measures, check_painting, check_start, check_tree, refuse_if};
+use crate::page::LINE;
 use crate::problem::{Edge, Problem, Tree};
 
 /// The lists that calls are lent, of any length and with any numbers.
@@ -88,7 +89,15 @@ impl Lists {
 
     /// The same of weighing, with tables for imbalance, potential and plan.
     pub fn accept_evaluate(&self, imbalance: usize, potential: usize, plan: usize) -> Result<Problem, u32> {
-        let room = |n: usize| imbalance >= n && potential >= n && plan >= n * n;
+        self.accept_tree(|n| imbalance >= n && potential >= n && plan >= n * n)
+    }
+
+    /// The same of printing, with a buffer of so many bytes.
+    pub fn accept_page(&self, buffer: usize) -> Result<Problem, u32> {
+        self.accept_tree(|n| buffer >= LINE * n)
+    }
+
+    fn accept_tree(&self, room: impl Fn(usize) -> bool) -> Result<Problem, u32> {
         let given = |n: usize| self.measures_fit(n) && self.parents.len() == n;
         let problem = self.sized(|n| given(n) && room(n))?;
         check_graph(&problem)?;

@@ -137,13 +137,13 @@ pub fn faulty_query(random: &mut Random, faults: &[Unaskable]) -> Query {
         query = sound_query(random);
     }
     for fault in UNASKABLE.into_iter().filter(|fault| faults.contains(fault)) {
-        spoil(random, &mut query, fault);
+        spoil(random, &mut query.lists, &mut query.start, fault);
     }
     query
 }
 
 /// Takes out the edges of one vertex, or those from the lower vertices to the upper ones.
-fn cut(random: &mut Random, lists: &mut Lists) {
+pub(crate) fn cut(random: &mut Random, lists: &mut Lists) {
     let (lone, border) = (
         random.index(lists.n) as u32,
         random.between(1, lists.n as u64 - 1),
@@ -162,8 +162,7 @@ fn cut(random: &mut Random, lists: &mut Lists) {
     }
 }
 
-fn spoil(random: &mut Random, query: &mut Query, fault: Unaskable) {
-    let Query { lists, start, .. } = query;
+pub(crate) fn spoil(random: &mut Random, lists: &mut Lists, start: &mut usize, fault: Unaskable) {
     let Lists {
         n, a, b, lengths, mu, ..
     } = lists;
@@ -213,7 +212,7 @@ fn spoil(random: &mut Random, query: &mut Query, fault: Unaskable) {
 
 /// What is no vertex: the next number, one near to it, one that would be this vertex if its upper bits were cut off, or
 /// a great one.
-fn outside(random: &mut Random, n: usize, vertex: usize) -> usize {
+pub(crate) fn outside(random: &mut Random, n: usize, vertex: usize) -> usize {
     let near = random.between(n as u64, 65) as usize;
     match random.below(4) {
         0 => n,
@@ -224,7 +223,7 @@ fn outside(random: &mut Random, n: usize, vertex: usize) -> usize {
 
 /// Brings the total of a painting above the bound: by one, by a single amount, by amounts that are sound alone, or by
 /// halves of 2^64, so that its last 64 bits stay.
-fn overpaint(random: &mut Random, amounts: &mut [u64]) {
+pub(crate) fn overpaint(random: &mut Random, amounts: &mut [u64]) {
     if amounts.is_empty() {
         return;
     }

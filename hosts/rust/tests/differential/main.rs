@@ -7,6 +7,7 @@
 //! | `reader` | `mover_read` |
 //! | `writer` | `mover_write_image` |
 //! | `one_place` | the same on patches that differ in one place |
+//! | `pages` | `mover_write_page` |
 //! | `rewriter` | `mover_rewrite` |
 //! | `report` | `mover_report` |
 //! | `trees` | the tree by value |
@@ -25,6 +26,7 @@ mod images;
 mod jobs;
 mod lent;
 mod one_place;
+mod pages;
 mod queries;
 mod reader;
 mod report;
@@ -34,6 +36,7 @@ mod tables;
 mod trees;
 mod weights;
 mod writer;
+mod wrong_pages;
 mod wrong_queries;
 mod wrong_report;
 mod wrong_rewriter;

@@ -93,7 +93,7 @@ pub fn judge_buffer(
                 format!("byte {at} of the image: expected {image:?}, but got {got:?}")
             })?;
             ensure(buffer.rest_is_as_lent(told), || {
-                "bytes past the image were changed".into()
+                "bytes past what is written were changed".into()
             })
         }
         Err(expected) => {

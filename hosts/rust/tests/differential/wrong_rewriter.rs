@@ -264,7 +264,7 @@ fn wrong_bytes_are_noticed() {
             let complaint = spoiled(&|job, _| job.buffer.content_mut()[at] ^= 1 << (at % 8));
             let expected = match (buffer, at) {
                 (90, 0..85) => format!("byte {at} of the image: "),
-                (90, _) => "bytes past the image were changed".into(),
+                (90, _) => "bytes past what is written were changed".into(),
                 _ => "a refusal changed the buffer".into(),
             };
             assert!(complaint.starts_with(&expected), "{at}: {complaint}");

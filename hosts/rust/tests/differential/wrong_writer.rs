@@ -401,7 +401,7 @@ fn wrong_bytes_are_noticed() {
             let complaint = judge(&given, &job, number).expect_err("a wrong byte");
             let expected = match (number, at) {
                 (0, 0..85) => format!("byte {at} of the image: "),
-                (0, _) => "bytes past the image were changed".into(),
+                (0, _) => "bytes past what is written were changed".into(),
                 _ => "a refusal changed the buffer".into(),
             };
             assert!(complaint.starts_with(&expected), "{at}: {complaint}");

@@ -1,0 +1,2 @@
+pub mod Preorder
+pub mod Steps

@@ -1,5 +1,7 @@
 // The edges at each vertex as linked lists, the field's forward star. Edge e is two arcs: 2e from its lower end and 2e + 1 from its upper end. From each vertex
 // a list leads from the last arc there back to the first.
+#![tactic(auto)]
+
 ghost use Rattle.std.specs.Prelude.{◌≡◌, ◌+◌, ◌*◌, ◌<◌, length, set};
 ghost use Rattle.arithmetic.specs.Table.{at};
 ghost use Rattle.forward_star.specs.Steps.Linked.{tail, CanLink, Linked};

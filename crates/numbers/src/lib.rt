@@ -1,4 +1,6 @@
 // Machine numbers: the smaller of two, how far they are apart, their differences, and one under a test.
+#![tactic(auto)]
+
 ghost use Rattle.std.specs.Prelude.{◌≡◌, ◌-◌, ◌^◌, ◌<◌, min};
 ghost use Rattle.std.proofs.Math.IntN.{sub_ℕ};
 ghost use Rattle.arithmetic.specs.Sum.{pick};

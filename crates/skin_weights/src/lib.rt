@@ -1,4 +1,6 @@
 // Weights as a paint tool holds them, 32-bit floats from 0 to 1, turned into amounts in grains and back.
+#![tactic(auto)]
+
 pub mod amounts;
 pub mod weight;
 pub mod weights;

@@ -1,4 +1,6 @@
 // Tables of n × n numbers: where an entry stands, and the same number in every place.
+#![tactic(auto)]
+
 ghost use Rattle.std.specs.Prelude.{◌≡◌, ◌+◌, ◌*◌, ◌≤◌, ◌<◌, min, length};
 ghost use Rattle.arithmetic.specs.Steps.Matrix.{filled};
 

@@ -1,0 +1,23 @@
+use Rattle.std.proofs.Common.{length, arith, rules, le-leb}
+use borrow.Author.Tests.{lt-leb}
+use Rattle.arithmetic.proofs.Laws.Refusal.{refusals, fails, test_held}
+use Rattle.skin_weights.specs.Lists.{amounts_refusal}
+use Rattle.skin_weights.proofs.amounts.amounts_refusal.Goals as goal
+
+-- `amounts_refusal` meets its contract: it runs down the list of checks.
+pub returns-then-amounts-weights : goal.returns-then-amounts-weights
+unfolding amounts_refusal
+returns-then-amounts-weights c =
+    fails 2 _ _ (lt-leb (length c.args.weights.now) (length c.args.amounts.now) (omega arith))
+
+pub returns-then-not-weights_ok : goal.returns-then-not-weights_ok
+returns-then-not-weights_ok c = unfold amounts_refusal in search (refusals, le-leb)
+
+pub grains_ok-requires : goal.grains_ok-requires
+grains_ok-requires c = search test_held
+
+pub returns-then-not-grains_ok : goal.returns-then-not-grains_ok
+returns-then-not-grains_ok c = unfold amounts_refusal in search (refusals, le-leb)
+
+pub returns : goal.returns
+returns c = unfold amounts_refusal in search (refusals, le-leb)

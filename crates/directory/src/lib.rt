@@ -1,4 +1,6 @@
 // A directory: pairs of 32-bit offset and length, sorted by offset, from place d of some bytes on. Each pair is a section of the bytes.
+#![tactic(auto)]
+
 ghost use Rattle.std.specs.Prelude.{◌≡◌, ◌||◌, ◌+◌, ◌*◌, ◌-◌, ◌≤◌, ◌<◌, length, eqb, leb};
 ghost use Rattle.arithmetic.specs.Bools.{all};
 ghost use Rattle.directory.specs.Directory.{offset_in, extent_in, end_in, pair_ok};

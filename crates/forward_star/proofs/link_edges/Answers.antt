@@ -18,11 +18,11 @@ offset_bounds-a-e c = omega (arith, c.requires)
 
 pub overflow_cast-a : goal.overflow_cast-a
 overflow_cast-a c =
-    let ends-in : → (at c.args.a.now c.loop-e.e < 64) × (at c.args.b.now c.loop-e.e < 64) = c.requires.ends _ (omega arith) in omega (arith, ends-in)
+    let ends-in : (at c.args.a.now c.loop-e.e < 64) × (at c.args.b.now c.loop-e.e < 64) = c.requires.ends _ (omega arith) in omega (arith, ends-in)
 
 pub link_arc-requires : goal.link_arc-requires
 link_arc-requires c =
-    let ends-in : → (at c.args.a.now c.loop-e.e < 64) × (at c.args.b.now c.loop-e.e < 64) = c.requires.ends _ (omega arith) in (omega (arith, c.requires), (omega (arith, ends-in, c.loop-e.invariant.1.1.1), omega (arith, c.requires, c.loop-e.invariant.1.1.1)))
+    let ends-in : (at c.args.a.now c.loop-e.e < 64) × (at c.args.b.now c.loop-e.e < 64) = c.requires.ends _ (omega arith) in (omega (arith, c.requires), (omega (arith, ends-in, c.loop-e.invariant.1.1.1), omega (arith, c.requires, c.loop-e.invariant.1.1.1)))
 
 pub overflow_mul-e-in-loop-e : goal.overflow_mul-e-in-loop-e
 overflow_mul-e-in-loop-e c = omega (arith, c.requires)
@@ -38,18 +38,18 @@ bounds-b-e c = omega (arith, c.requires)
 
 pub overflow_cast-b : goal.overflow_cast-b
 overflow_cast-b c =
-    let ends-in : → (at c.args.a.now c.loop-e.e < 64) × (at c.args.b.now c.loop-e.e < 64) = c.requires.ends _ (omega arith) in omega (arith, ends-in)
+    let ends-in : (at c.args.a.now c.loop-e.e < 64) × (at c.args.b.now c.loop-e.e < 64) = c.requires.ends _ (omega arith) in omega (arith, ends-in)
 
 pub link_arc-requires-in-loop-e : goal.link_arc-requires-in-loop-e
 link_arc-requires-in-loop-e c =
-    let ends-in : → (at c.args.a.now c.loop-e.e < 64) × (at c.args.b.now c.loop-e.e < 64) = c.requires.ends _ (omega arith) in let lengths-kept : → (length c.link_arc.new.1.1.0 ≡ length c.loop-e.last) × (length c.link_arc.new.1.1.1.0 ≡ length c.loop-e.before) = (ap length c.link_arc.ensures.0 ∙ simp length-set, ap length c.link_arc.ensures.1 ∙ simp length-set) in let w = c.loop-e.invariant.1.1.1 in
+    let ends-in : (at c.args.a.now c.loop-e.e < 64) × (at c.args.b.now c.loop-e.e < 64) = c.requires.ends _ (omega arith) in let lengths-kept : (length c.link_arc.new.last ≡ length c.loop-e.last) × (length c.link_arc.new.before ≡ length c.loop-e.before) = (ap length c.link_arc.ensures.0 ∙ simp length-set, ap length c.link_arc.ensures.1 ∙ simp length-set) in let w = c.loop-e.invariant.1.1.1 in
     (omega (arith, c.requires), (omega (arith, ends-in, w, lengths-kept), omega (arith, c.requires, w, lengths-kept)))
 
 pub loop-e-preserved : goal.loop-e-preserved
 loop-e-preserved c =
-    let ends-in : → (at c.args.a.now c.loop-e.e < 64) × (at c.args.b.now c.loop-e.e < 64) = c.requires.ends _ (omega arith) in let lengths-kept : → (length c.link_arc.new.1.1.0 ≡ length c.loop-e.last) × (length c.link_arc.new.1.1.1.0 ≡ length c.loop-e.before) = (ap length c.link_arc.ensures.0 ∙ simp length-set, ap length c.link_arc.ensures.1 ∙ simp length-set) in let inv = c.loop-e.invariant in
-    let last : length c.link_arc-in-loop-e.last.1.1.0 ≡ length c.link_arc.last.1.1.0 = ap length c.link_arc-in-loop-e.ensures.0 ∙ simp length-set in
-    let before : length c.link_arc-in-loop-e.last.1.1.1.0 ≡ length c.link_arc.last.1.1.1.0 = ap length c.link_arc-in-loop-e.ensures.1 ∙ simp length-set in (
+    let ends-in : (at c.args.a.now c.loop-e.e < 64) × (at c.args.b.now c.loop-e.e < 64) = c.requires.ends _ (omega arith) in let lengths-kept : (length c.link_arc.new.last ≡ length c.loop-e.last) × (length c.link_arc.new.before ≡ length c.loop-e.before) = (ap length c.link_arc.ensures.0 ∙ simp length-set, ap length c.link_arc.ensures.1 ∙ simp length-set) in let inv = c.loop-e.invariant in
+    let last : length c.link_arc-in-loop-e.new.last ≡ length c.link_arc.new.last = ap length c.link_arc-in-loop-e.ensures.0 ∙ simp length-set in
+    let before : length c.link_arc-in-loop-e.new.before ≡ length c.link_arc.new.before = ap length c.link_arc-in-loop-e.ensures.1 ∙ simp length-set in (
       omega arith,
       (
         last ∙ lengths-kept.0 ∙ inv.1.0,

@@ -84,6 +84,10 @@ same_value x y s a c h f g u v =
         (mul_right_comm (m * up e) (2 ^ 149) c ∙ ap (λ (z : ℕ). z * 2 ^ 149) q ∙ mul_right_comm a (down e) (2 ^ 149))
 
     bits : (x y : Float) → HasValue x s a c → HasValue y s a c → to_bits binary32 x ≡ to_bits binary32 y
+    bits nan _ u v = elim u [ ]
+    bits (inf _) _ u v = elim u [ ]
+    bits (fin t m e) nan u v = elim v [ ]
+    bits (fin t m e) (inf _) u v = elim v [ ]
     bits (fin t m e) (fin w n d) u v = rw (u.0, v.0, units m e u.1, units n d v.1)
 
 weight_fits : (k : ℕ) → T (fits binary32 (weight_of k))

@@ -1,5 +1,4 @@
 use Rattle.std.proofs.Common.{◌≡◌, ◌-◌, ◌≤◌, true, length, sym, ◌∙◌, arith, rules}
-use borrow.Author.Tests.{not-true, not-false}
 use Rattle.arithmetic.specs.Bools.{all}
 use Rattle.arithmetic.proofs.Laws.Bools.{all_none, all_more, all-at, all_fails, all_end}
 use Rattle.skin_weights.specs.Weight.{whole_grains}
@@ -15,11 +14,11 @@ whole_grains-requires c =
 
 pub returns-then-not-whole_grains : goal.returns-then-not-whole_grains
 returns-then-not-whole_grains c =
-    sym (all_fails _ _ c.loop-i.i c.loop-i-test.true (sym c.whole_grains.ensures ∙ not-true _ c.if-not-whole_grains.true))
+    sym (all_fails _ _ c.loop-i.i c.loop-i-test.true (sym c.whole_grains.ensures ∙ c.if-not-whole_grains.true))
 
 pub loop-i-preserved : goal.loop-i-preserved
 loop-i-preserved c =
-    (omega arith, all_more _ _ c.loop-i.invariant.1 (sym c.whole_grains.ensures ∙ not-false _ c.if-not-whole_grains.false))
+    (omega arith, all_more _ _ c.loop-i.invariant.1 (sym c.whole_grains.ensures ∙ c.if-not-whole_grains.false))
 
 pub returns : goal.returns
 returns c = let l = c.loop-i in all_end _ _ _ l.invariant.0 c.loop-i-test.false l.invariant.1

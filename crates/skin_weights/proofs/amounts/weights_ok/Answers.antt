@@ -1,5 +1,4 @@
 use Rattle.std.proofs.Common.{◌≡◌, ◌-◌, ◌≤◌, true, length, sym, ◌∙◌, arith, rules}
-use borrow.Author.Tests.{not-true, not-false}
 use Rattle.arithmetic.specs.Bools.{all}
 use Rattle.arithmetic.proofs.Laws.Bools.{all_none, all_more, all_fails, all_end}
 use Rattle.skin_weights.specs.Weight.{in_unit_interval}
@@ -11,11 +10,11 @@ loop-i-init c = (omega arith, all_none _)
 
 pub returns-then-not-in_unit_interval : goal.returns-then-not-in_unit_interval
 returns-then-not-in_unit_interval c =
-    sym (all_fails _ _ c.loop-i.i c.loop-i-test.true (sym c.in_unit_interval.ensures ∙ not-true _ c.if-not-in_unit_interval.true))
+    sym (all_fails _ _ c.loop-i.i c.loop-i-test.true (sym c.in_unit_interval.ensures ∙ c.if-not-in_unit_interval.true))
 
 pub loop-i-preserved : goal.loop-i-preserved
 loop-i-preserved c =
-    (omega arith, all_more _ _ c.loop-i.invariant.1 (sym c.in_unit_interval.ensures ∙ not-false _ c.if-not-in_unit_interval.false))
+    (omega arith, all_more _ _ c.loop-i.invariant.1 (sym c.in_unit_interval.ensures ∙ c.if-not-in_unit_interval.false))
 
 pub returns : goal.returns
 returns c = let l = c.loop-i in all_end _ _ _ l.invariant.0 c.loop-i-test.false l.invariant.1

@@ -5,7 +5,9 @@ use Rattle.skin_weights.proofs.weight.whole_grains.Goals as goal
 pub truncating_f32_to_u64-cut-requires : goal.truncating_f32_to_u64-cut-requires
 unfolding of_bits
 truncating_f32_to_u64-cut-requires c =
-    let product : Scales c.args.w (mul binary32 c.args.w grains_f) = scales c.args.w c.well_formed.0.1 c.requires in may_cut product
+    let product : Scales c.args.w (mul binary32 c.args.w grains_f) = scales c.args.w c.well_formed.0.1 c.requires in
+    let within = may_cut product in
+    record { lower_bound = within.0; upper_bound = within.1 }
 
 pub int_to_float-result : goal.int_to_float-result
 unfolding of_bits

@@ -1,0 +1,9 @@
+use native.Mathlib.Omega.{arith}
+use borrow.Author.Rules.{rules}
+use Rattle.image_sections.proofs.Laws.Sections.{edge_placed}
+use Rattle.image_sections.proofs.write.write_edge.Goals as goal
+
+-- `write_edge` meets its contract.
+pub returns : goal.returns
+returns c =
+    edge_placed _ _ _ _ _ _ _ _ c.requires c.put_byte.ensures c.put_byte-2.ensures c.put_two.ensures

@@ -1,4 +1,6 @@
 // A sheet of outcomes: how many there are of each number, and what the costs of the accepted ones come to.
+#![tactic(auto)]
+
 ghost use Rattle.std.specs.Prelude.{◌≡◌, ◌||◌, ℕ, ◌+◌, ◌^◌, ◌≤◌, ◌<◌, length, eqb, ltb};
 ghost use Rattle.arithmetic.specs.Table.{at, tab, written};
 ghost use Rattle.cost_sheet.specs.Steps.Sheet.{Tells};

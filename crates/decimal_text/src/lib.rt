@@ -1,4 +1,6 @@
 // Numbers in base ten and other text, written into a lent buffer: each writer puts its text from a place on and returns the place behind it.
+#![tactic(auto)]
+
 ghost use Rattle.std.specs.Prelude.{◌≡◌, [], ◌∷◌, ◌+◌, ◌≤◌, ◌<◌, nat_abs, length};
 ghost use Rattle.decimal_text.specs.Decimal.{decimal, signed_decimal};
 ghost use Rattle.decimal_text.specs.Steps.Wrote.{Wrote};

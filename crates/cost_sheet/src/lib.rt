@@ -9,7 +9,7 @@ ghost use Rattle.cost_sheet.specs.Steps.Sheet.{Tells};
 pub const PLACES: usize = 24;
 
 // In place k the number of outcomes with the number k, 0 for the accepted ones; the sum of their costs, the greatest, and the first that has it.
-#[derive(Drop)]
+#[derive(Clone, Copy)]
 pub struct Sheet {
     pub tally: [u32; 24],
     pub sum: u64,

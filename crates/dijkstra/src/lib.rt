@@ -14,7 +14,7 @@ use vertex_set::{lowest_vertex, without_lowest};
 const UNREACHED: u32 = 1 << 30;
 
 // Whether every vertex can be reached, and if so, the distances.
-#[derive(Drop)]
+#[derive(Clone, Copy)]
 pub struct Reached {
     pub all: bool,
     pub distances: [u32; 64],

@@ -7,7 +7,7 @@ use dijkstra::distances_from;
 use graph::edges;
 
 // The number of checks 1 to 5, and where it is 0, the distances from the start, if that is a vertex.
-#[derive(Drop)]
+#[derive(Clone, Copy)]
 pub struct Checked {
     pub refusal: u32,
     pub distances: [u32; 64],

@@ -8,7 +8,7 @@ ghost use Rattle.distance_queries.specs.Steps.Nearer.{CanCompare};
 use crate::checked::checked_distances;
 use measures::capped_total;
 
-#[derive(Drop)]
+#[derive(Clone, Copy)]
 pub struct Nearest {
     pub refusal: u32,
     pub vertex: u32,

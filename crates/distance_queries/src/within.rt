@@ -7,7 +7,7 @@ ghost use Rattle.distance_queries.specs.Within.{FoundWithin};
 
 use crate::checked::checked_distances;
 
-#[derive(Drop)]
+#[derive(Clone, Copy)]
 pub struct Within {
     pub refusal: u32,
     pub mask: u64,

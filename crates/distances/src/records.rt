@@ -7,7 +7,7 @@ ghost use Rattle.distances.specs.Steps.Records.{columns_of, Full, OfColumns};
 use graph::edges;
 
 #[repr(C)]
-#[derive(Drop)]
+#[derive(Clone, Copy)]
 pub struct EdgeRecord {
     pub a: u32,
     pub b: u32,
@@ -15,7 +15,7 @@ pub struct EdgeRecord {
 }
 
 // The fields of up to 512 edges, each in a table of its own.
-#[derive(Drop)]
+#[derive(Clone, Copy)]
 struct Columns {
     a: [u32; 512],
     b: [u32; 512],

@@ -29,7 +29,7 @@ LeastPlan g mu nu c = (t : ℕ → ℕ → ℕ) → Plan g.n mu nu t → c ≤ p
 pub record Best (g : Graph) (mu nu : ℕ → ℕ) (p : ℕ → ℕ) (t : ℕ → ℕ → ℕ) (u : ℕ → ℤ) (cost : ℕ) : Type 0 where
   -- the plan has row sums mu and column sums nu, and no plan costs less
   pub carries : Plan g.n mu nu t
-  pub least-plan : LeastPlan g mu nu (plan_cost g t)
+  pub least_plan : LeastPlan g mu nu (plan_cost g t)
   -- the tree is a spanning tree of the graph, and no spanning tree under any root costs less
   pub spanning : SpanningTree g 0 p
   pub least_tree : LeastTree g mu nu (tree_cost g 0 p mu nu)

@@ -1,4 +1,6 @@
 // All distances of a graph by Floyd and Warshall's method, in place in the answer table.
+#![tactic(auto)]
+
 ghost use Rattle.std.specs.Prelude.{◌≡◌, true, cond, ◌+◌, ◌*◌, ◌≤◌, ◌<◌, min, eqb, length, set};
 ghost use Rattle.arithmetic.specs.Steps.Table.{cell};
 ghost use Rattle.arithmetic.specs.Steps.Matrix.{filled};

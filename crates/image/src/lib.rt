@@ -1,4 +1,6 @@
 // The image format: the header's fields, and the checks of an image, 11, 12, 13, 1 and 2.
+#![tactic(auto)]
+
 ghost use Rattle.std.specs.Prelude.{◌≡◌, ◌&&◌, ◌≤◌, ◌<◌, length, leb};
 ghost use Rattle.arithmetic.specs.Refusal.{refusal};
 ghost use Rattle.graph.specs.Checks.{vertices_ok};

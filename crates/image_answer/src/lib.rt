@@ -11,7 +11,7 @@ use spanning_tree::tree::Tree;
 use tree_evaluation::evaluate;
 
 // 0 or a refusal number, with the tree, 1 if the image gave it, cost and moves
-#[derive(Drop)]
+#[derive(Clone, Copy)]
 pub struct Answer {
     pub refusal: u32,
     pub tree: Tree,

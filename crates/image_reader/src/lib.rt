@@ -8,7 +8,7 @@ use image::{edge_count, read_refusal, vertex_count};
 use sections::{fill_amounts, fill_edges, fill_parents, root, tree_mark};
 
 // What the reader returns: the refusal number and, after a success, n, m, the tree's root and 1 for a tree.
-#[derive(Drop)]
+#[derive(Clone, Copy)]
 pub struct Reading {
     pub refusal: u32,
     pub n: usize,

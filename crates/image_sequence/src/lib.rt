@@ -1,4 +1,6 @@
 // A sequence of images in bytes: their count, a directory, and the images (document 02 calls it a reel).
+#![tactic(auto)]
+
 ghost use Rattle.std.specs.Prelude.{◌≡◌, true, ◌≤◌, ◌<◌, length};
 ghost use Rattle.image_sequence.specs.Sequence.{image_count, image_at, sequence_ok};
 

@@ -17,7 +17,7 @@ use image_sections::write::{write_amounts, write_edges, write_tree};
 use packed_image::write_header;
 
 // What the writer returns: the refusal number and, after a success, the length of the image.
-#[derive(Drop)]
+#[derive(Clone, Copy)]
 pub struct Written {
     pub refusal: u32,
     pub length: usize,

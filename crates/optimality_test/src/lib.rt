@@ -14,7 +14,7 @@ use spanning_tree::tree::Tree;
 use tree_evaluation::evaluate_tree;
 
 // 0 or a refusal number, and 1 where the tree is a best one
-#[derive(Drop)]
+#[derive(Clone, Copy)]
 pub struct Optimality {
     pub refusal: u32,
     pub optimal: u32,

@@ -1,5 +1,7 @@
 // The labels of the vertices: what the path from the start weighs, or more until it is found. An edge weighs 128 times its length and 1: as a path of a tree has at
 // most 63 edges, the lightest path is a shortest one, with the fewest edges of those; and every weight is positive, whatever the length.
+#![tactic(auto)]
+
 ghost use Rattle.std.specs.Prelude.{◌≡◌, ◌≤◌, ◌<◌, length, ltb};
 ghost use Rattle.arithmetic.specs.Bools.{all};
 ghost use Rattle.arithmetic.specs.Table.{at};

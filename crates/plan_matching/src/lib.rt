@@ -1,4 +1,6 @@
 // The plan's rule in a subtree: surpluses matched with deficits.
+#![tactic(auto)]
+
 ghost use Rattle.std.specs.Prelude.{◌≡◌, ◌-◌, ◌≤◌, ◌<◌, ◌^◌};
 ghost use Rattle.arithmetic.specs.Table.{at};
 ghost use Rattle.arithmetic.specs.Steps.Mask.{bit};

@@ -18,7 +18,7 @@ const UNIT: u64 = 1 << 36;
 const HALF: u64 = 1 << 35;
 
 // An edge from s to t.
-#[derive(Drop)]
+#[derive(Clone, Copy)]
 pub struct Edge {
     pub s: usize,
     pub t: usize,

@@ -38,7 +38,7 @@ fn lowest_common_ancestor(
 const NO_FLOW: u64 = 1 << 62;
 
 // A vertex of a path and the flow up from it.
-#[derive(Drop)]
+#[derive(Clone, Copy)]
 struct PathFlow {
     vertex: usize,
     flow: u64,

@@ -2,7 +2,7 @@
 
 // A refusal number, or 0 and: how many images were accepted; in place k how many have the number k, 0 for the accepted ones; the sum of their costs,
 // the greatest, and the first image that has it.
-#[derive(Drop)]
+#[derive(Clone, Copy)]
 pub struct Report {
     pub refusal: u32,
     pub accepted: u32,
@@ -13,7 +13,7 @@ pub struct Report {
 }
 
 // The same without the counts, which went to a lent table.
-#[derive(Drop)]
+#[derive(Clone, Copy)]
 pub struct Totals {
     pub refusal: u32,
     pub accepted: u32,

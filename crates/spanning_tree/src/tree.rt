@@ -7,7 +7,7 @@ use tree_checks::{chains, checks};
 use tree_walks::walk;
 
 #[repr(C)]
-#[derive(Drop)]
+#[derive(Clone, Copy)]
 pub struct Tree {
     pub n: usize,
     pub root: usize,

@@ -16,7 +16,7 @@ use subtree_sums::subtree_tables;
 use transport_plan::tree_plan;
 
 // 0 or a refusal number, with the cost of the tree and the moves of its plan
-#[derive(Drop)]
+#[derive(Clone, Copy)]
 pub struct Evaluation {
     pub refusal: u32,
     pub cost: u64,
@@ -24,7 +24,7 @@ pub struct Evaluation {
 }
 
 // the cost of an accepted tree, and the moves of its plan
-#[derive(Drop)]
+#[derive(Clone, Copy)]
 pub struct TreeValue {
     pub cost: u64,
     pub moves: u32,

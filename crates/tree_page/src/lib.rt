@@ -15,7 +15,7 @@ use spanning_tree::tree::Tree;
 const LINE: usize = 96;
 
 // 0 or a refusal number, with the bytes filled
-#[derive(Drop)]
+#[derive(Clone, Copy)]
 pub struct Page {
     pub refusal: u32,
     pub length: usize,

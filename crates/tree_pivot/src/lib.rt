@@ -1,4 +1,6 @@
 // The pivot of the network simplex: a subtree is cut off and hung elsewhere, and every table of the basis follows.
+#![tactic(auto)]
+
 ghost use Rattle.std.specs.Prelude.{◌≡◌, ◌≤◌, ◌<◌, length};
 ghost use Rattle.arithmetic.specs.Steps.Product.{gap};
 ghost use Rattle.arithmetic.specs.Table.{at};
@@ -14,7 +16,7 @@ use vertex_set::shift_word;
 
 // An exchange: the edge between a and b, of length `long`, enters the tree, and the edge above `leaving` leaves it. The subtree of `leaving`, in which a is and b is
 // not, hangs by a on b then; its potential rises or falls until the edge is tight. `ancestor` is above a and b.
-#[derive(Drop)]
+#[derive(Clone, Copy)]
 pub struct Exchange {
     pub a: usize,
     pub b: usize,
@@ -33,7 +35,7 @@ fn shifted(rises: bool, d: u64, u: u64) -> u64
 }
 
 // What is below a vertex: the masses sent and taken there, and the mask of its subtree.
-#[derive(Drop)]
+#[derive(Clone, Copy)]
 struct Subtotals {
     supply: u64,
     demand: u64,

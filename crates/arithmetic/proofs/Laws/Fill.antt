@@ -5,7 +5,7 @@ use Prim.Native.Nat.{ℕ, ◌+◌, ◌≤◌, ◌<◌}
 use native.Mathlib.Nat.{le_antisymm}
 use native.Mathlib.Omega.{arith}
 use lib.ListN.{length, drop, set, length-set}
-use Rattle.arithmetic.specs.Table.{at, tab, written}
+use Rattle.arithmetic.specs.Table.{tab, written}
 use Rattle.arithmetic.specs.Steps.Fill.{Filling, Filled}
 use Rattle.arithmetic.proofs.Laws.Table.{length-tab, tab_none, tab_store, front_at}
 

@@ -10,7 +10,7 @@ use lib.Seq.{get_or-set_same, get_or-set_other}
 use borrow.Author.Tests.{eqb-true, eqb-false, eq-eqb, ne_eqb, ltb-true, ltb-false}
 use Rattle.arithmetic.specs.Sum.{pick}
 use Rattle.arithmetic.specs.Table.{at, tab}
-use Rattle.arithmetic.proofs.Laws.Bools.{case, case≡, or_elim, clash}
+use Rattle.arithmetic.proofs.Laws.Bools.{case≡, or_elim, clash}
 use Rattle.arithmetic.proofs.Laws.Table.{length-tab, tab-at, tab_ext, tab_is}
 use Rattle.cost_sheet.specs.declared.Sheet.{Sheet}
 use Rattle.cost_sheet.specs.Sheet.{count_of, cost_at, greatest_cost}

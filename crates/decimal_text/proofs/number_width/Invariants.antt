@@ -1,9 +1,7 @@
 use Prim.Native.Nat.{◌+◌, ◌^◌, ◌<◌}
 use mathlib.Core.Path.{◌≡◌}
-use native.Mathlib.Omega.{arith}
 use lib.ListN.{length}
 use Rattle.decimal_text.specs.Decimal.{decimal}
-use Rattle.decimal_text.proofs.Laws.Decimal.{length-decimal, width_more, width_end}
 use Rattle.decimal_text.proofs.number_width.Given as goal
 
 abbrev pub invariant-loop-rest : goal.invariant-loop-rest

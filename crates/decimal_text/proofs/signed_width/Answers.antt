@@ -1,6 +1,5 @@
 use mathlib.Core.Path.{ap, ◌∙◌}
 use native.Mathlib.Omega.{arith}
-use borrow.Author.Rules.{rules}
 use lib.ListN.{length}
 use Rattle.decimal_text.proofs.Laws.Signed.{same_magnitude, digits_most, minus_width, plain_same}
 use Rattle.decimal_text.proofs.signed_width.Goals as goal

@@ -1,6 +1,4 @@
-use native.Mathlib.Omega.{arith}
 use Rattle.decimal_text.proofs.Laws.Wrote.{byte_wrote}
-use borrow.Author.Rules.{rules}
 use Rattle.decimal_text.proofs.write_byte.Goals as goal
 
 -- `write_byte` meets its contract.

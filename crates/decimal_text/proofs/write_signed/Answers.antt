@@ -1,6 +1,5 @@
 use mathlib.Core.Path.{ap, ◌∙◌}
 use native.Mathlib.Omega.{arith}
-use borrow.Author.Rules.{rules}
 use lib.ListN.{length}
 use Rattle.decimal_text.proofs.Laws.Signed.{same_magnitude, minus_room, minus_wrote, minus_least, plain_same}
 use Rattle.decimal_text.proofs.write_signed.Goals as goal

@@ -1,6 +1,5 @@
 use native.Mathlib.Omega.{arith}
 use Rattle.decimal_text.proofs.Laws.Wrote.{wrote_then}
-use borrow.Author.Rules.{rules}
 use Rattle.decimal_text.proofs.write_spaced.Goals as goal
 
 -- `write_spaced` meets its contract.

@@ -1,7 +1,3 @@
-use Prim.Native.Nat.{◌-◌}
-use native.Mathlib.Omega.{arith}
-use lib.ListN.{length, take}
-use Rattle.little_endian.proofs.Laws.Buffer.{Placing}
 use Rattle.decimal_text.proofs.Laws.Wrote.{word_none, word_more, word_end}
 use Rattle.decimal_text.proofs.write_word.Goals as goal
 

@@ -1,5 +1,4 @@
 use mathlib.Core.Path.{sym}
-use native.Mathlib.Omega.{arith}
 use Rattle.arithmetic.proofs.Laws.Tests.{tests}
 use Rattle.directory.specs.Directory.{pair_ok}
 use Rattle.directory.proofs.pair_ok.Goals as goal

@@ -1,11 +1,6 @@
-use Prim.Native.Nat.{◌-◌, ◌≤◌}
-use mathlib.Core.Path.{◌≡◌, sym, ◌∙◌}
-use mathlib.Core.Bool.{true}
+use mathlib.Core.Path.{sym, ◌∙◌}
 use native.Mathlib.Omega.{arith}
-use borrow.Author.Tests.{not-true, not-false}
-use Rattle.arithmetic.specs.Bools.{all}
 use Rattle.arithmetic.proofs.Laws.Bools.{all_none, all_more, all_fails, all_end}
-use Rattle.directory.specs.Directory.{pair_ok}
 use Rattle.directory.proofs.pairs_ok.Goals as goal
 
 pub loop-t-init : goal.loop-t-init

@@ -1,10 +1,7 @@
 use Prim.Native.Nat.{◌-◌, ◌≤◌}
-use mathlib.Core.Path.{◌≡◌, sym, ◌∙◌}
+use mathlib.Core.Path.{◌≡◌}
 use mathlib.Core.Bool.{true}
-use native.Mathlib.Omega.{arith}
-use borrow.Author.Tests.{not-true, not-false}
 use Rattle.arithmetic.specs.Bools.{all}
-use Rattle.arithmetic.proofs.Laws.Bools.{all_none, all_more, all_fails, all_end}
 use Rattle.directory.specs.Directory.{pair_ok}
 use Rattle.directory.proofs.pairs_ok.Given as goal
 

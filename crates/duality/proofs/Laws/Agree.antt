@@ -155,9 +155,9 @@ module _ {g : Graph} {mu mu' nu nu' p : ℕ → ℕ} {t t' : ℕ → ℕ → ℕ
       rows = λ i l. sym (sum_ext g.n _ _ (λ j k. entries i j l k)) ∙ b.carries.rows i l ∙ before i l;
       columns = λ j l. sym (sum_ext g.n _ _ (λ i k. entries i j k l)) ∙ b.carries.columns j l ∙ after j l;
     };
-    least-plan = λ v c.
+    least_plan = λ v c.
         rw (← plan_cost_same g t t' entries)
-        (b.least-plan v (record { rows = λ i l. c.rows i l ∙ sym (before i l); columns = λ j l. c.columns j l ∙ sym (after j l) }));
+        (b.least_plan v (record { rows = λ i l. c.rows i l ∙ sym (before i l); columns = λ j l. c.columns j l ∙ sym (after j l) }));
     spanning = b.spanning;
     least_tree = λ r q s.
         rw (← tree_cost_same g (itself g.n 0 p) before after, ← tree_cost_same g (itself g.n r q) before after) (b.least_tree r q s);

@@ -78,9 +78,9 @@ module _ (g : Graph) (acc : Accepted g) (mu nu p U : ℕ → ℕ) (same : sum g.
         cert.weighs,
       )
 
-  least-plan : LeastPlan g mu nu (tree_cost g 0 p mu nu)
+  least_plan : LeastPlan g mu nu (tree_cost g 0 p mu nu)
   unfolding plan_cost
-  least-plan t h =
+  least_plan t h =
       omega (
         arith,
         plan_weak g.n U (distance g) t mu nu (distance-step g acc U near) h.rows h.columns,
@@ -108,14 +108,14 @@ module _ (g : Graph) (acc : Accepted g) (mu nu p U : ℕ → ℕ) (same : sum g.
   equal =
       le_antisymm
       (rw (tree_cost_flow g 0 p mu nu) (unfold plan_cost in plan_cost_is rooted mu nu (to_parent g p) (distance g) tree_within same))
-      (least-plan (plan g.n 0 p mu nu) tree_plan)
+      (least_plan (plan g.n 0 p mu nu) tree_plan)
 
   -- differences of the potential do not depend on the offset
   pub certificate_best : (u : ℕ → ℤ) → ((y : ℕ) → y < g.n → u y ≡ sub_ℕ (U y) (U 0))
       → Best g mu nu p (plan g.n 0 p mu nu) u (tree_cost g 0 p mu nu)
   certificate_best u u-is = record {
     carries = tree_plan;
-    least-plan = rw equal least-plan;
+    least_plan = rw equal least_plan;
     spanning = cert.spanning;
     least_tree = least_tree;
     plan_cost_is = equal;

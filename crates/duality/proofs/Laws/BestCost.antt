@@ -141,7 +141,7 @@ module _ (g : Graph) (mu nu : ℕ → ℕ) where
     -- what it says of the plan (nothing cites this): the plan has the best cost, and no plan costs less
     pub best-plan : {p : ℕ → ℕ} {t : ℕ → ℕ → ℕ} {u : ℕ → ℤ} {cost : ℕ} → Best g mu nu p t u cost
         → Plan g.n mu nu t × ((plan_cost g t ≡ best_cost g mu nu) × LeastPlan g mu nu (best_cost g mu nu))
-    best-plan b = let e = b.plan_cost_is ∙ best_is b in (b.carries, (e, rw e at b.least-plan))
+    best-plan b = let e = b.plan_cost_is ∙ best_is b in (b.carries, (e, rw e at b.least_plan))
 
     -- what demand 3 leaves of the cost (nothing cites this): two costs that it holds of are equal
     pub best_same_cost : {p q : ℕ → ℕ} {t s : ℕ → ℕ → ℕ} {u v : ℕ → ℤ} {c d : ℕ} → Best g mu nu p t u c → Best g mu nu q s v d → c ≡ d

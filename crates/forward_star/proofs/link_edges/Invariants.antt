@@ -1,10 +1,7 @@
-use Prim.Native.Nat.{◌*◌, ◌≤◌, ◌<◌, ◌-◌}
-use mathlib.Core.Path.{◌≡◌, refl, ap, ◌∙◌}
-use native.Mathlib.Omega.{arith}
-use lib.ListN.{length, length-set}
-use Rattle.arithmetic.specs.Table.{at}
+use Prim.Native.Nat.{◌*◌, ◌≤◌, ◌-◌}
+use mathlib.Core.Path.{◌≡◌}
+use lib.ListN.{length}
 use Rattle.forward_star.specs.Steps.Linked.{tail, Linked}
-use Rattle.forward_star.proofs.Laws.Linked.{linked_none, linked_edge}
 use Rattle.forward_star.proofs.link_edges.Given as goal
 
 abbrev pub invariant-loop-e : goal.invariant-loop-e

@@ -10,7 +10,7 @@ use Rattle.arithmetic.specs.Refusal.{refusal}
 use Rattle.arithmetic.proofs.Laws.Bools.{and_l, and_r}
 use Rattle.arithmetic.proofs.Laws.Refusal.{test_of, numbered, every_holds}
 use Rattle.graph.specs.Graph.{Graph, edges}
-use Rattle.graph.specs.Checks.{vertices_ok, lists_fit, lists_ok, connected, size_checks, edge_checks, graph_checks}
+use Rattle.graph.specs.Checks.{vertices_ok, lists_fit, lists_ok, size_checks, edge_checks, graph_checks}
 use Rattle.graph.specs.Steps.Accepted.{Sized, Accepted}
 
 -- check 1, as an order

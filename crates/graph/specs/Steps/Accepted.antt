@@ -1,6 +1,6 @@
 -- What a call may rely on once checks 1 to 5 have passed.
 use Rattle.std.specs.Prelude.{◌≡◌, true}
-use Rattle.graph.specs.Graph.{Graph, edges}
+use Rattle.graph.specs.Graph.{Graph}
 use Rattle.graph.specs.Checks.{vertices_ok, lists_ok, edges_ok, lengths_ok, connected}
 
 -- checks 1 and 2

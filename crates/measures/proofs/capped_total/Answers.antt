@@ -1,8 +1,7 @@
-use Prim.Native.Nat.{◌+◌, ◌-◌, ◌≤◌}
+use Prim.Native.Nat.{◌+◌}
 use mathlib.Core.Path.{◌≡◌, sym}
 use native.Mathlib.Omega.{arith}
 use Rattle.arithmetic.specs.Table.{at}
-use Rattle.arithmetic.specs.Sum.{sum}
 use Rattle.arithmetic.proofs.Laws.Sum.{sum-nil, sum_step, sum_front}
 use Rattle.measures.proofs.capped_total.Goals as goal
 

@@ -1,9 +1,7 @@
-use Prim.Native.Nat.{◌+◌, ◌-◌, ◌≤◌}
-use mathlib.Core.Path.{◌≡◌, sym}
-use native.Mathlib.Omega.{arith}
+use Prim.Native.Nat.{◌-◌, ◌≤◌}
+use mathlib.Core.Path.{◌≡◌}
 use Rattle.arithmetic.specs.Table.{at}
 use Rattle.arithmetic.specs.Sum.{sum}
-use Rattle.arithmetic.proofs.Laws.Sum.{sum-nil, sum_step, sum_front}
 use Rattle.measures.proofs.capped_total.Given as goal
 
 abbrev pub invariant-loop-x : goal.invariant-loop-x

@@ -1,4 +1,3 @@
-use native.Mathlib.Omega.{arith}
 use Rattle.arithmetic.proofs.Laws.Refusal.{refusals}
 use Rattle.measures.specs.Checks.{measure_checks}
 use Rattle.measures.proofs.Laws.Totals.{totals}

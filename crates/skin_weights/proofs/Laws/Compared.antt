@@ -1,5 +1,5 @@
 -- What the comparisons with 0 and 1 say of a weight. 0.0 is `fin false 0 (pos 0)` and 1.0 is `fin false 1 (pos 0)`.
-use Rattle.std.proofs.Common.{◌≡◌, ℕ, zero, suc, ◌+◌, ◌*◌, ◌<◌, ◌≤◌, true, false, not, ◌&&◌, ◌||◌, eqb, ltb, leb, ℤ, pos, refl, zero-lt-suc, mul-pos, zero-mul, arith, le-ltb, lt-ltb, eq-eqb, ne_eqb, eqb-true, le-leb, leb-true}
+use Rattle.std.proofs.Common.{◌≡◌, ℕ, zero, suc, ◌+◌, ◌*◌, ◌<◌, ◌≤◌, true, false, ◌&&◌, ◌||◌, eqb, ltb, leb, ℤ, pos, refl, zero-lt-suc, mul-pos, zero-mul, arith, le-ltb, lt-ltb, eq-eqb, ne_eqb, eqb-true, le-leb, leb-true}
 use mathlib.Core.Bool.{false≢true, and-false, or-true}
 use native.Mathlib.Nat.{zero-div}
 use lib.Ieee.{Float, nan, inf, fin, up, down, eq, lt, le}

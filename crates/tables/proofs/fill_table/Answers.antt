@@ -1,7 +1,5 @@
-use Prim.Native.Nat.{◌-◌, ◌*◌}
-use mathlib.Core.Path.{◌≡◌, refl}
+use mathlib.Core.Path.{refl}
 use native.Mathlib.Omega.{arith}
-use Rattle.arithmetic.specs.Steps.Fill.{Filling}
 use Rattle.arithmetic.proofs.Laws.Fill.{filling_none, filling_more, filling_end}
 use Rattle.tables.proofs.Laws.Even.{even_filled}
 use Rattle.tables.proofs.fill_table.Goals as goal

@@ -1,9 +1,6 @@
 use Prim.Native.Nat.{◌-◌, ◌*◌}
-use mathlib.Core.Path.{◌≡◌, refl}
-use native.Mathlib.Omega.{arith}
+use mathlib.Core.Path.{◌≡◌}
 use Rattle.arithmetic.specs.Steps.Fill.{Filling}
-use Rattle.arithmetic.proofs.Laws.Fill.{filling_none, filling_more, filling_end}
-use Rattle.tables.proofs.Laws.Even.{even_filled}
 use Rattle.tables.proofs.fill_table.Given as goal
 
 abbrev pub invariant-loop-p : goal.invariant-loop-p

@@ -1,8 +1,8 @@
-use Prim.Native.Nat.{◌-◌, ◌≤◌}
+use Prim.Native.Nat.{◌≤◌}
 use mathlib.Core.Path.{◌≡◌}
 use native.Mathlib.Omega.{arith}
 use Rattle.arithmetic.specs.Table.{at}
-use Rattle.vertex_set.proofs.Laws.Layers.{Gathered, gathered_none, gathered_more}
+use Rattle.vertex_set.proofs.Laws.Layers.{gathered_none, gathered_more}
 use Rattle.vertex_set.proofs.layers.Goals as goal
 
 pub loop-x-init : goal.loop-x-init

@@ -1,8 +1,5 @@
 use Prim.Native.Nat.{◌-◌, ◌≤◌}
-use mathlib.Core.Path.{◌≡◌}
-use native.Mathlib.Omega.{arith}
-use Rattle.arithmetic.specs.Table.{at}
-use Rattle.vertex_set.proofs.Laws.Layers.{Gathered, gathered_none, gathered_more}
+use Rattle.vertex_set.proofs.Laws.Layers.{Gathered}
 use Rattle.vertex_set.proofs.layers.Given as goal
 
 abbrev pub invariant-loop-x : goal.invariant-loop-x

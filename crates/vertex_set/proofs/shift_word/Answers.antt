@@ -1,5 +1,5 @@
 use native.Mathlib.Omega.{arith}
-use Rattle.vertex_set.proofs.Laws.Shift.{ShiftingWord, shifting_none, shifting_out, shifting_room, shifting_more, shifting_end}
+use Rattle.vertex_set.proofs.Laws.Shift.{shifting_none, shifting_out, shifting_room, shifting_more, shifting_end}
 use Rattle.vertex_set.proofs.shift_word.Goals as goal
 
 pub loop-left-init : goal.loop-left-init

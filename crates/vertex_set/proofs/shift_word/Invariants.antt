@@ -1,5 +1,4 @@
-use native.Mathlib.Omega.{arith}
-use Rattle.vertex_set.proofs.Laws.Shift.{ShiftingWord, shifting_none, shifting_out, shifting_room, shifting_more, shifting_end}
+use Rattle.vertex_set.proofs.Laws.Shift.{ShiftingWord}
 use Rattle.vertex_set.proofs.shift_word.Given as goal
 
 abbrev pub invariant-loop-left : goal.invariant-loop-left

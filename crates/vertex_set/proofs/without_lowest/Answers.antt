@@ -1,4 +1,3 @@
-use native.Mathlib.Omega.{arith}
 use Rattle.vertex_set.proofs.Laws.Without.{cleared}
 use Rattle.vertex_set.proofs.without_lowest.Goals as goal
 

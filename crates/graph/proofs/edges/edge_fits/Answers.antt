@@ -1,5 +1,4 @@
 use mathlib.Core.Bool.{and-true}
-use native.Mathlib.Omega.{arith}
 use borrow.Author.Tests.{eq-eqb, ne_eqb}
 use Rattle.graph.specs.Checks.{edge_fits}
 use Rattle.graph.proofs.edges.edge_fits.Goals as goal

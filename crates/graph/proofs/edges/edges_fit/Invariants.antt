@@ -1,9 +1,7 @@
 use Prim.Native.Nat.{◌≤◌, ◌-◌}
-use mathlib.Core.Path.{◌≡◌, sym}
-use native.Mathlib.Omega.{arith}
+use mathlib.Core.Path.{◌≡◌}
 use lib.ListN.{length}
 use Rattle.arithmetic.specs.Bools.{all}
-use Rattle.arithmetic.proofs.Laws.Bools.{all_none, all-step}
 use Rattle.graph.specs.Checks.{edge_fits}
 use Rattle.graph.proofs.edges.edges_fit.Given as goal
 

@@ -1,9 +1,7 @@
 use Prim.Native.Nat.{◌≤◌, ◌-◌}
-use mathlib.Core.Path.{◌≡◌, sym}
-use native.Mathlib.Omega.{arith}
+use mathlib.Core.Path.{◌≡◌}
 use Rattle.graph.specs.Checks.{length_fits}
 use Rattle.arithmetic.specs.Bools.{all}
-use Rattle.arithmetic.proofs.Laws.Bools.{all_none, all-step}
 use Rattle.graph.proofs.edges.lengths_fit.Given as goal
 
 abbrev pub invariant-loop-e : goal.invariant-loop-e

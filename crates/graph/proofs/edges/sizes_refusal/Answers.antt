@@ -1,4 +1,3 @@
-use native.Mathlib.Omega.{arith}
 use Rattle.arithmetic.proofs.Laws.Refusal.{refusals}
 use Rattle.graph.specs.Checks.{size_checks}
 use Rattle.graph.proofs.edges.sizes_refusal.Goals as goal

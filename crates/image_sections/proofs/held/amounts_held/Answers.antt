@@ -1,11 +1,6 @@
-use mathlib.Core.Path.{◌≡◌, sym}
-use mathlib.Core.Bool.{true}
-use Prim.Native.Nat.{◌≤◌, ◌-◌}
+use mathlib.Core.Path.{sym}
 use native.Mathlib.Omega.{arith}
-use lib.Dec.{leb}
-use lib.ListN.{length}
 use borrow.Author.Tests.{le-leb, lt-leb}
-use Rattle.arithmetic.specs.Bools.{all}
 use Rattle.arithmetic.specs.Table.{at}
 use Rattle.arithmetic.proofs.Laws.Bools.{all_none, all_more, all_fails, all_end}
 use Rattle.image_sections.proofs.held.amounts_held.Goals as goal

@@ -1,4 +1,3 @@
-use Prim.Native.Nat.{◌-◌}
 use mathlib.Core.Path.{refl}
 use native.Mathlib.Omega.{arith}
 use lib.Dec.{leb}
@@ -6,8 +5,6 @@ use lib.ListN.{length}
 use borrow.Author.Tests.{leb-true}
 use Rattle.arithmetic.specs.Table.{at}
 use Rattle.arithmetic.proofs.Laws.Bools.{all-at}
-use Rattle.little_endian.specs.LittleEndian.{fields}
-use Rattle.little_endian.proofs.Laws.Buffer.{Placing}
 use Rattle.little_endian.proofs.Laws.Byte.{section_none, section_more, section-end}
 use Rattle.image_sections.proofs.write.write_amounts.Goals as goal
 

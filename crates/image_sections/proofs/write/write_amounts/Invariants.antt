@@ -1,14 +1,7 @@
 use Prim.Native.Nat.{◌-◌}
-use mathlib.Core.Path.{refl}
-use native.Mathlib.Omega.{arith}
-use lib.Dec.{leb}
-use lib.ListN.{length}
-use borrow.Author.Tests.{leb-true}
 use Rattle.arithmetic.specs.Table.{at}
-use Rattle.arithmetic.proofs.Laws.Bools.{all-at}
 use Rattle.little_endian.specs.LittleEndian.{fields}
 use Rattle.little_endian.proofs.Laws.Buffer.{Placing}
-use Rattle.little_endian.proofs.Laws.Byte.{section_none, section_more, section-end}
 use Rattle.image_sections.proofs.write.write_amounts.Given as goal
 
 abbrev pub invariant-loop-i : goal.invariant-loop-i

@@ -1,5 +1,3 @@
-use native.Mathlib.Omega.{arith}
-use borrow.Author.Rules.{rules}
 use Rattle.image_sections.proofs.Laws.Sections.{edge_placed}
 use Rattle.image_sections.proofs.write.write_edge.Goals as goal
 

@@ -1,12 +1,8 @@
 use Prim.Native.Nat.{◌-◌}
-use mathlib.Core.Path.{refl}
-use native.Mathlib.Omega.{arith}
 use lib.ListN.{length}
 use Rattle.arithmetic.specs.Table.{appended}
 use Rattle.little_endian.proofs.Laws.Buffer.{Placing}
-use Rattle.little_endian.proofs.Laws.Byte.{pieces_none, pieces_more, pieces_end}
 use Rattle.image_sections.specs.SectionBytes.{edge_entry}
-use Rattle.image_sections.proofs.Laws.Sections.{length_entry}
 use Rattle.image_sections.proofs.write.write_edges.Given as goal
 
 abbrev pub invariant-loop-e : goal.invariant-loop-e

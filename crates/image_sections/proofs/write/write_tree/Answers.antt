@@ -1,5 +1,4 @@
 use native.Mathlib.Omega.{arith}
-use borrow.Author.Rules.{rules}
 use Rattle.image_sections.proofs.Laws.Sections.{tree_placed}
 use Rattle.image_sections.proofs.write.write_tree.Goals as goal
 

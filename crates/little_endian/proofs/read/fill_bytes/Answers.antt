@@ -1,7 +1,4 @@
-use Prim.Native.Nat.{◌+◌, ◌-◌, ◌*◌}
 use native.Mathlib.Omega.{arith}
-use Rattle.arithmetic.specs.Table.{at, tab}
-use Rattle.little_endian.proofs.Laws.Buffer.{Placing}
 use Rattle.little_endian.proofs.Laws.Byte.{table_none, table_more, table_end}
 use Rattle.little_endian.proofs.read.fill_bytes.Goals as goal
 

@@ -1,9 +1,7 @@
 use Prim.Native.Nat.{◌+◌, ◌-◌, ◌*◌}
-use native.Mathlib.Omega.{arith}
 use Rattle.arithmetic.specs.Table.{tab}
 use Rattle.little_endian.specs.LittleEndian.{four}
 use Rattle.little_endian.proofs.Laws.Buffer.{Placing}
-use Rattle.little_endian.proofs.Laws.Byte.{table_none, table_more, table_end}
 use Rattle.little_endian.proofs.read.fill_fours.Given as goal
 
 abbrev pub invariant-loop-e : goal.invariant-loop-e

@@ -1,6 +1,4 @@
-use native.Mathlib.Omega.{arith}
 use Rattle.little_endian.proofs.Laws.Byte.{one_store}
-use borrow.Author.Rules.{rules}
 use Rattle.little_endian.proofs.write.put_byte.Goals as goal
 
 -- `put_byte` meets its contract.

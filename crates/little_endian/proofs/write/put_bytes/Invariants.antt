@@ -1,10 +1,7 @@
 use Prim.Native.Nat.{◌-◌}
-use mathlib.Core.Path.{refl}
-use native.Mathlib.Omega.{arith}
 use Rattle.arithmetic.specs.Table.{at}
 use Rattle.little_endian.specs.LittleEndian.{fields}
 use Rattle.little_endian.proofs.Laws.Buffer.{Placing}
-use Rattle.little_endian.proofs.Laws.Byte.{section_none, section_more, section-end}
 use Rattle.little_endian.proofs.write.put_bytes.Given as goal
 
 abbrev pub invariant-loop-i : goal.invariant-loop-i

@@ -1,6 +1,4 @@
-use native.Mathlib.Omega.{arith}
 use Rattle.little_endian.proofs.Laws.Byte.{two_words}
-use borrow.Author.Rules.{rules}
 use Rattle.little_endian.proofs.write.put_long.Goals as goal
 
 -- `put_long` meets its contract.

@@ -1,7 +1,6 @@
 use native.Mathlib.Omega.{arith}
 use lib.ListN.{length-set}
 use Rattle.little_endian.proofs.Laws.Byte.{four_stores}
-use borrow.Author.Rules.{rules}
 use Rattle.little_endian.proofs.write.put_word.Goals as goal
 
 pub bounds-out-p-2 : goal.bounds-out-p-2

@@ -1,7 +1,4 @@
-use Rattle.std.proofs.Common.{◌-◌, length, rules}
-use Rattle.skin_weights.specs.Weight.{amount_of}
-use Rattle.skin_weights.specs.Lists.{weight_at, amounts_of}
-use Rattle.arithmetic.specs.Steps.Fill.{Filling}
+use Rattle.skin_weights.specs.Lists.{amounts_of}
 use Rattle.arithmetic.proofs.Laws.Bools.{all-at}
 use Rattle.arithmetic.proofs.Laws.Fill.{filling_none, filling_more, filling_written}
 use Rattle.skin_weights.proofs.amounts.fill_amounts.Goals as goal

@@ -1,9 +1,7 @@
-use Rattle.std.proofs.Common.{◌-◌, length, rules}
+use Rattle.std.proofs.Common.{◌-◌, length}
 use Rattle.skin_weights.specs.Weight.{amount_of}
-use Rattle.skin_weights.specs.Lists.{weight_at, amounts_of}
+use Rattle.skin_weights.specs.Lists.{weight_at}
 use Rattle.arithmetic.specs.Steps.Fill.{Filling}
-use Rattle.arithmetic.proofs.Laws.Bools.{all-at}
-use Rattle.arithmetic.proofs.Laws.Fill.{filling_none, filling_more, filling_written}
 use Rattle.skin_weights.proofs.amounts.fill_amounts.Given as goal
 
 abbrev pub invariant-loop-i : goal.invariant-loop-i

@@ -1,7 +1,5 @@
-use Rattle.std.proofs.Common.{◌≡◌, ◌-◌, ◌≤◌, true, length, sym, ◌∙◌, arith, rules}
-use borrow.Author.Tests.{not-true, not-false}
+use Rattle.std.proofs.Common.{◌≡◌, ◌-◌, ◌≤◌, true, length}
 use Rattle.arithmetic.specs.Bools.{all}
-use Rattle.arithmetic.proofs.Laws.Bools.{all_none, all_more, all-at, all_fails, all_end}
 use Rattle.skin_weights.specs.Weight.{whole_grains}
 use Rattle.skin_weights.specs.Lists.{weight_at}
 use Rattle.skin_weights.proofs.amounts.grains_ok.Given as goal

@@ -1,4 +1,4 @@
-use Rattle.std.proofs.Common.{◌≡◌, sym, ◌∙◌, arith, rules}
+use Rattle.std.proofs.Common.{◌≡◌, sym, ◌∙◌, arith}
 use Rattle.skin_weights.proofs.Laws.Lists.{amounts_refused, amounts_passed, amounts_filled}
 use Rattle.skin_weights.proofs.amounts.to_amounts.Goals as goal
 

@@ -1,6 +1,5 @@
-use Rattle.std.proofs.Common.{◌≡◌, ◌-◌, ◌^◌, ◌≤◌, true, leb, length, sym, arith, rules, le-leb}
+use Rattle.std.proofs.Common.{◌^◌, sym, arith, le-leb}
 use borrow.Author.Tests.{lt-leb}
-use Rattle.arithmetic.specs.Bools.{all}
 use Rattle.arithmetic.specs.Table.{at}
 use Rattle.arithmetic.proofs.Laws.Bools.{all_none, all_more, all_fails, all_end}
 use Rattle.skin_weights.proofs.weights.amounts_ok.Goals as goal

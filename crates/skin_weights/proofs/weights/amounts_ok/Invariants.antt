@@ -1,8 +1,6 @@
-use Rattle.std.proofs.Common.{◌≡◌, ◌-◌, ◌^◌, ◌≤◌, true, leb, length, sym, arith, rules, le-leb}
-use borrow.Author.Tests.{lt-leb}
+use Rattle.std.proofs.Common.{◌≡◌, ◌-◌, ◌^◌, ◌≤◌, true, leb, length}
 use Rattle.arithmetic.specs.Bools.{all}
 use Rattle.arithmetic.specs.Table.{at}
-use Rattle.arithmetic.proofs.Laws.Bools.{all_none, all_more, all_fails, all_end}
 use Rattle.skin_weights.proofs.weights.amounts_ok.Given as goal
 
 abbrev pub invariant-loop-i : goal.invariant-loop-i

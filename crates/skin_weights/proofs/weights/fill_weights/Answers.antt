@@ -1,8 +1,5 @@
-use Rattle.std.proofs.Common.{◌-◌, length, rules, leb-true}
-use Rattle.arithmetic.specs.Table.{at}
-use Rattle.skin_weights.specs.Weight.{weight_of}
+use Rattle.std.proofs.Common.{leb-true}
 use Rattle.skin_weights.specs.Lists.{weights_of}
-use Rattle.arithmetic.specs.Steps.Fill.{Filling}
 use Rattle.arithmetic.proofs.Laws.Bools.{all-at}
 use Rattle.arithmetic.proofs.Laws.Fill.{filling_none, filling_more, filling_written}
 use Rattle.skin_weights.proofs.weights.fill_weights.Goals as goal

@@ -1,10 +1,7 @@
-use Rattle.std.proofs.Common.{◌-◌, length, rules, leb-true}
+use Rattle.std.proofs.Common.{◌-◌, length}
 use Rattle.arithmetic.specs.Table.{at}
 use Rattle.skin_weights.specs.Weight.{weight_of}
-use Rattle.skin_weights.specs.Lists.{weights_of}
 use Rattle.arithmetic.specs.Steps.Fill.{Filling}
-use Rattle.arithmetic.proofs.Laws.Bools.{all-at}
-use Rattle.arithmetic.proofs.Laws.Fill.{filling_none, filling_more, filling_written}
 use Rattle.skin_weights.proofs.weights.fill_weights.Given as goal
 
 abbrev pub invariant-loop-i : goal.invariant-loop-i

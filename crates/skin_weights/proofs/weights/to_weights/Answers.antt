@@ -1,4 +1,4 @@
-use Rattle.std.proofs.Common.{◌≡◌, sym, ◌∙◌, arith, rules}
+use Rattle.std.proofs.Common.{◌≡◌, sym, ◌∙◌, arith}
 use Rattle.skin_weights.proofs.Laws.Lists.{weights_refused, weights_passed, weights_filled}
 use Rattle.skin_weights.proofs.weights.to_weights.Goals as goal
 

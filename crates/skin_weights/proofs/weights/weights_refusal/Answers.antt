@@ -1,4 +1,4 @@
-use Rattle.std.proofs.Common.{length, arith, rules, le-leb}
+use Rattle.std.proofs.Common.{length, arith, le-leb}
 use borrow.Author.Tests.{lt-leb}
 use Rattle.arithmetic.proofs.Laws.Refusal.{refusals, fails}
 use Rattle.skin_weights.specs.Lists.{weights_refusal}

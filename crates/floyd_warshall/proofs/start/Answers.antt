@@ -1,0 +1,8 @@
+use borrow.Author.Rules.{rules}
+use Rattle.graph.specs.Graph.{graph}
+use Rattle.floyd_warshall.proofs.Laws.FloydWarshall.{via-start}
+use Rattle.floyd_warshall.proofs.start.Goals as goal
+
+pub returns : goal.returns
+returns c =
+    via-start (graph c.args.n c.args.a.now c.args.b.now c.args.lengths.now) _ _ _ _ c.fill_table.ensures c.put_edges.ensures c.zero_diagonal.ensures

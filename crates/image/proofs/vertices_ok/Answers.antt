@@ -1,0 +1,5 @@
+use native.Mathlib.Omega.{arith}
+use Rattle.image.proofs.vertices_ok.Goals as goal
+
+pub returns : goal.returns
+returns c = cc

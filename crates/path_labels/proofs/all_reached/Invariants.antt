@@ -1,0 +1,17 @@
+use Prim.Native.Nat.{◌≤◌, ◌-◌}
+use mathlib.Core.Bool.{true}
+use mathlib.Core.Path.{◌≡◌, sym}
+use native.Mathlib.Omega.{arith}
+use lib.Dec.{ltb}
+use borrow.Author.Tests.{lt-ltb, le-ltb}
+use Rattle.arithmetic.specs.Bools.{all}
+use Rattle.arithmetic.proofs.Laws.Bools.{all_none, all_more, all_fails, all_end}
+use Rattle.arithmetic.specs.Table.{at}
+use Rattle.path_labels.specs.Steps.Weight.{unreached}
+use Rattle.path_labels.proofs.all_reached.Given as goal
+
+abbrev pub invariant-loop-v : goal.invariant-loop-v
+invariant-loop-v l = (l.v ≤ l.n) × (all l.v (λ x. ltb (at l.labels x) unreached) ≡ true)
+
+abbrev pub decreases-loop-v : goal.decreases-loop-v
+decreases-loop-v l = l.n - l.v

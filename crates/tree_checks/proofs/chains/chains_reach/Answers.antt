@@ -1,0 +1,27 @@
+use Prim.Native.Nat.{◌-◌, ◌<◌}
+use mathlib.Core.Path.{◌∙◌}
+use native.Mathlib.Omega.{arith}
+use Rattle.arithmetic.specs.Table.{at}
+use Rattle.tree_checks.specs.Steps.Doubling.{Ahead}
+use Rattle.tree_checks.proofs.Laws.Doubling.{ahead_first, ahead_end}
+use Rattle.tree_checks.proofs.chains.chains_reach.Goals as goal
+
+pub first_steps-ahead-requires : goal.first_steps-ahead-requires
+first_steps-ahead-requires c = (omega arith, omega arith)
+
+pub loop-steps-init : goal.loop-steps-init
+loop-steps-init c =
+    let f = c.first_steps-ahead in
+    (omega arith, ahead_first c.requires.1 f.result (omega (arith, f.ensures.0)) f.ensures.1)
+
+pub double_steps-requires : goal.double_steps-requires
+double_steps-requires c =
+    (omega arith, c.loop-steps.invariant.1.inside)
+
+pub loop-steps-preserved : goal.loop-steps-preserved
+loop-steps-preserved c =
+    (omega arith, c.double_steps.ensures _ _ c.loop-steps.invariant.1)
+
+pub returns : goal.returns
+returns c =
+    c.all_equal.ensures ∙ ahead_end c.requires.1 _ (omega arith) c.loop-steps.invariant.1

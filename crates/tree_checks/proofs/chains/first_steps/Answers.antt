@@ -1,0 +1,17 @@
+use Prim.Native.Nat.{◌-◌}
+use mathlib.Core.Path.{refl}
+use native.Mathlib.Omega.{arith}
+use Rattle.arithmetic.specs.Table.{at}
+use Rattle.arithmetic.specs.Steps.Fill.{Filling}
+use Rattle.arithmetic.proofs.Laws.Fill.{filling_none, filling_more, filled-end}
+use Rattle.tree_checks.proofs.chains.first_steps.Goals as goal
+
+pub loop-x-init : goal.loop-x-init
+loop-x-init c = filling_none _ _ (omega arith)
+
+pub loop-x-preserved : goal.loop-x-preserved
+loop-x-preserved c =
+    filling_more c.loop-x.invariant (omega arith) refl
+
+pub returns : goal.returns
+returns c = let w = filled-end c.loop-x.invariant c.loop-x-test.false in (w.size, w.each)

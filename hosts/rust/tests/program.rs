@@ -38,7 +38,7 @@ fn run(program: &Path, image: &[u8]) -> Result<String, String> {
     let piped = command.stdin(Stdio::piped()).stdout(Stdio::piped());
     let mut child = piped.spawn().map_err(|e| {
         let program = program.display();
-        format!("{program} does not run ({e}): make it with `rt run` in crates/mover, or say in MOVER_PROGRAM where it is")
+        format!("{program} does not run ({e}): `rt run` in crates/mover makes it, or say in MOVER_PROGRAM where it is")
     })?;
     // A program that refuses a long image may stop reading it.
     let _ = child.stdin.take().expect("its input").write_all(image);

@@ -37,8 +37,8 @@ pub fn written(name: &str, bytes: impl AsRef<[u8]>) -> PathBuf {
     file
 }
 
-/// Programs in the place of `rt` and `cargo`: they write down how they are called. `rt` builds an archive with nothing in it, and
-/// `cargo` builds the command unless it is to fail or does not find that archive. The shell writes them, so that no test has them open.
+/// Programs in the place of `rt` and `cargo`: they write down how they are called. `rt` builds an empty archive, `cargo`
+/// the command, unless it is to fail or does not find that archive. The shell writes them, so that no test has them open.
 const TOOLS: &str = r#"
 mkdir -p tools
 cat >tools/rt <<'END'

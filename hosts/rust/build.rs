@@ -1,6 +1,6 @@
 //! Links the static archive of the proved library.
 //!
-//! It is looked for in `MOVER_LIB_DIR`, or else where `rt staticlib host_calls` puts it.
+//! It is looked for in `MOVER_LIB_DIR`, or else where `hosts/archives host_calls` puts it.
 
 use std::env;
 use std::path::PathBuf;
@@ -18,7 +18,7 @@ fn main() {
     println!("cargo:rerun-if-changed={}", archive.display());
     if !archive.exists() {
         eprintln!("{} is not there.", archive.display());
-        eprintln!("Make it with `rt staticlib host_calls` at the top of the repository,");
+        eprintln!("Make it with `hosts/archives host_calls` at the top of the repository,");
         eprintln!("or say in MOVER_LIB_DIR which directory has {ARCHIVE}.");
         std::process::exit(1);
     }

@@ -1,6 +1,6 @@
 //! The program `mover`, which reads an image on standard input: its listings against the reference.
 //!
-//! It is looked for in `MOVER_PROGRAM`, or else where `rt check mover` puts it.
+//! It is looked for in `MOVER_PROGRAM`, or else where `rt run` in `crates/mover` puts it.
 
 use reference::checks::accept;
 use reference::flow::least_cost;
@@ -38,7 +38,7 @@ fn run(program: &Path, image: &[u8]) -> Result<String, String> {
     let piped = command.stdin(Stdio::piped()).stdout(Stdio::piped());
     let mut child = piped.spawn().map_err(|e| {
         let program = program.display();
-        format!("{program} does not run ({e}): make it with `rt check mover`, or say in MOVER_PROGRAM where it is")
+        format!("{program} does not run ({e}): `rt run` in crates/mover makes it, or say in MOVER_PROGRAM where it is")
     })?;
     // A program that refuses a long image may stop reading it.
     let _ = child.stdin.take().expect("its input").write_all(image);
@@ -67,7 +67,7 @@ fn compare(program: &Path, print: impl Fn(&Path, &[u8]) -> Result<String, String
 }
 
 fn program() -> PathBuf {
-    let usual = Path::new(env!("CARGO_MANIFEST_DIR")).join("../../target/bin/mover");
+    let usual = Path::new(env!("CARGO_MANIFEST_DIR")).join("../../crates/mover/out/mover");
     std::env::var_os("MOVER_PROGRAM").map_or(usual, PathBuf::from)
 }
 

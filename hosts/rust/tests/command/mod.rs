@@ -37,18 +37,21 @@ pub fn written(name: &str, bytes: impl AsRef<[u8]>) -> PathBuf {
     file
 }
 
-/// Programs in the place of `rt` and `cargo`: they write down how they are called, and `cargo` builds the command unless
-/// it is to fail. The shell writes them, so that no test has them open.
+/// Programs in the place of `rt` and `cargo`: they write down how they are called. `rt` builds an empty archive, `cargo`
+/// the command, unless it is to fail or does not find that archive. The shell writes them, so that no test has them open.
 const TOOLS: &str = r#"
 mkdir -p tools
 cat >tools/rt <<'END'
 #!/bin/sh
-echo "rt $*" >>calls
+echo "rt $* in ${PWD##*/}" >>"$CALLS"
+mkdir -p out
+touch out/libhost_calls.a
 END
 cat >tools/cargo <<'END'
 #!/bin/sh
-echo "cargo $*" >>calls
+echo "cargo $*" >>"$CALLS"
 [ -z "$FAILS" ] || { echo "$FAILS"; exit 1; }
+[ -f target/staticlib/libhost_calls.a ] || exit 1
 mkdir -p hosts/rust/target/release
 cp "$BUILT" "hosts/rust/target/release/$COMMAND"
 END
@@ -67,9 +70,13 @@ impl Script {
     /// With one file in the folder `files`.
     pub fn new(command: &'static str, built: &'static str, file: &str, content: &str) -> Script {
         let top = folder(&format!("{command} top"));
-        let script = Path::new(env!("CARGO_MANIFEST_DIR")).join("../..").join(command);
-        fs::copy(script, top.join(command)).expect("the script");
-        fs::create_dir(top.join("files")).expect("a folder");
+        for folder in ["files", "hosts", "crates/host_calls"] {
+            fs::create_dir_all(top.join(folder)).expect("a folder");
+        }
+        let repository = Path::new(env!("CARGO_MANIFEST_DIR")).join("../..");
+        for script in [command, "hosts/archives"] {
+            fs::copy(repository.join(script), top.join(script)).expect("the script");
+        }
         fs::write(top.join("files").join(file), content).expect("written");
         let mut shell = Command::new("sh");
         assert_eq!(ended(shell.args(["-c", TOOLS]).current_dir(&top)), said(""));
@@ -83,6 +90,7 @@ impl Script {
         command.current_dir(self.top.join("files"));
         let tools = self.top.join("tools");
         command.env("PATH", format!("{}:/usr/bin:/bin", tools.display()));
+        command.env("CALLS", self.top.join("calls"));
         command.env("BUILT", self.built).env("COMMAND", self.command);
         ended(command.env("FAILS", fails).env_remove("MOVER_LIB_DIR"))
     }
@@ -98,7 +106,7 @@ impl Script {
     /// How they are called to build the library and the command.
     pub fn building(&self) -> String {
         format!(
-            "rt staticlib host_calls\n\
+            "rt lib in host_calls\n\
              cargo build --offline --release --quiet --bin {} --manifest-path hosts/rust/Cargo.toml\n",
             self.command
         )

@@ -1,5 +1,4 @@
 use mathlib.Core.Path.{sym}
-use native.Mathlib.Omega.{arith}
 use Rattle.image.specs.Image.{layout_ok}
 use Rattle.arithmetic.proofs.Laws.Tests.{tests}
 use Rattle.image.proofs.Laws.Tests.{image_tests}

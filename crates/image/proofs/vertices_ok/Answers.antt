@@ -1,4 +1,3 @@
-use native.Mathlib.Omega.{arith}
 use Rattle.image.proofs.vertices_ok.Goals as goal
 
 pub returns : goal.returns

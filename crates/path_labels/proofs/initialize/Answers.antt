@@ -1,7 +1,6 @@
-use Prim.Native.Nat.{◌≤◌, ◌-◌}
 use native.Mathlib.Omega.{arith}
 use lib.ListN.{length-set}
-use Rattle.path_labels.proofs.Laws.Labelling.{InitializedTo, initialized_none, initialized_more, initialized_end}
+use Rattle.path_labels.proofs.Laws.Labelling.{initialized_none, initialized_more, initialized_end}
 use Rattle.path_labels.proofs.initialize.Goals as goal
 
 pub loop-v-init : goal.loop-v-init

@@ -1,7 +1,5 @@
 use Prim.Native.Nat.{◌≤◌, ◌-◌}
-use native.Mathlib.Omega.{arith}
-use lib.ListN.{length-set}
-use Rattle.path_labels.proofs.Laws.Labelling.{InitializedTo, initialized_none, initialized_more, initialized_end}
+use Rattle.path_labels.proofs.Laws.Labelling.{InitializedTo}
 use Rattle.path_labels.proofs.initialize.Given as goal
 
 abbrev pub invariant-loop-v : goal.invariant-loop-v

@@ -1,5 +1,3 @@
-use native.Mathlib.Omega.{arith}
-use borrow.Author.Tests.{not-true}
 use Rattle.path_labels.proofs.Laws.Labelling.{round_down, round_up}
 use Rattle.path_labels.proofs.round.Goals as goal
 

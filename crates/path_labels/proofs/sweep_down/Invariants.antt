@@ -1,9 +1,7 @@
-use Prim.Native.Nat.{◌≤◌, ◌-◌}
-use mathlib.Core.Path.{◌≡◌, refl}
-use native.Mathlib.Omega.{arith}
+use Prim.Native.Nat.{◌≤◌}
+use mathlib.Core.Path.{◌≡◌}
 use lib.ListN.{length}
 use Rattle.path_labels.specs.Steps.Labels.{SweepsDown}
-use Rattle.path_labels.proofs.Laws.Labelling.{down_none, down_can, down_more}
 use Rattle.path_labels.proofs.sweep_down.Given as goal
 
 abbrev pub invariant-loop-e : goal.invariant-loop-e

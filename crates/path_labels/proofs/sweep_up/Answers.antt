@@ -1,11 +1,9 @@
-use Prim.Native.Nat.{◌≤◌, ◌-◌}
-use mathlib.Core.Path.{◌≡◌, refl, ◌∙◌}
-use mathlib.Core.Logic.{⊎_elim}
+use mathlib.Core.Path.{◌≡◌, refl}
 use native.Mathlib.Omega.{arith}
 use lib.ListN.{length}
-use Rattle.path_labels.specs.Steps.Labels.{SweepsUp}
 use Rattle.path_labels.proofs.Laws.Labelling.{up_none, up_can, up_more}
 use Rattle.path_labels.proofs.sweep_up.Goals as goal
+use Rattle.path_labels.proofs.sweep_up.Goals.{then-relax, else-relax}
 
 pub loop-e-init : goal.loop-e-init
 loop-e-init c = (omega arith, (refl, (refl, (refl, up_none _ _ _ _ _ _))))
@@ -17,7 +15,7 @@ relax-requires c =
 pub loop-e-preserved : goal.loop-e-preserved
 loop-e-preserved c =
     let more = up_more c.loop-e.invariant.1.1.1.1 (omega arith) c.relax.ensures in
-    (omega arith, (omega arith, (omega arith, (omega arith, more _ (⊎_elim (λ w. w.1 ∙ rw w.0.taken) (λ w. w.1 ∙ rw w.0.left) c.if-relax.branch)))))
+    (omega arith, (omega arith, (omega arith, (omega arith, more _ (elim c.if-relax.branch [ then-relax w ↦ cc | else-relax w ↦ cc ])))))
 
 pub returns : goal.returns
 returns c =

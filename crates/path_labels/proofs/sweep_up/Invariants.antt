@@ -1,10 +1,7 @@
 use Prim.Native.Nat.{◌≤◌, ◌-◌}
-use mathlib.Core.Path.{◌≡◌, refl, ◌∙◌}
-use mathlib.Core.Logic.{⊎_elim}
-use native.Mathlib.Omega.{arith}
+use mathlib.Core.Path.{◌≡◌}
 use lib.ListN.{length}
 use Rattle.path_labels.specs.Steps.Labels.{SweepsUp}
-use Rattle.path_labels.proofs.Laws.Labelling.{up_none, up_can, up_more}
 use Rattle.path_labels.proofs.sweep_up.Given as goal
 
 abbrev pub invariant-loop-e : goal.invariant-loop-e

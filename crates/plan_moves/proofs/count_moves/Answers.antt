@@ -1,11 +1,8 @@
-use Prim.Native.Nat.{◌-◌}
 use native.Mathlib.Nat.{mul-le-mul}
 use native.Mathlib.Omega.{arith}
-use Rattle.arithmetic.specs.Sum.{sum}
-use Rattle.arithmetic.specs.Steps.Table.{cell}
 use Rattle.plan_rule.specs.Plan.{moves}
 use Rattle.plan_moves.specs.Steps.Count.{move_at}
-use Rattle.plan_moves.proofs.Laws.Counting.{Counted, counted_none, counted_fits, counted_more, counted_end, row_few}
+use Rattle.plan_moves.proofs.Laws.Counting.{counted_none, counted_fits, counted_more, counted_end, row_few}
 use Rattle.plan_moves.proofs.count_moves.Goals as goal
 
 pub loop-i-init : goal.loop-i-init

@@ -1,8 +1,5 @@
-use Prim.Native.Nat.{◌-◌}
 use native.Mathlib.Omega.{arith}
-use Rattle.arithmetic.specs.Steps.Table.{cell}
-use Rattle.plan_moves.specs.Steps.Count.{positive_at}
-use Rattle.plan_moves.proofs.Laws.Counting.{Counted, counted_none, counted_fits, counted_more, counted_end, positive_few, row_moves}
+use Rattle.plan_moves.proofs.Laws.Counting.{counted_none, counted_fits, counted_more, counted_end, positive_few, row_moves}
 use Rattle.plan_moves.proofs.count_row.Goals as goal
 
 pub loop-j-init : goal.loop-j-init

@@ -1,5 +1,4 @@
 use borrow.Author.Tests.{lt-ltb, le-ltb}
-use native.Mathlib.Omega.{arith}
 use Rattle.plan_moves.specs.Steps.Count.{positive_at}
 use Rattle.plan_moves.proofs.positive_at.Goals as goal
 

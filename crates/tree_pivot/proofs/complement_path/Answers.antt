@@ -1,8 +1,6 @@
 use native.Mathlib.Omega.{arith}
-use Rattle.arithmetic.specs.Table.{at}
-use Rattle.rooted_tree.specs.Chain.{depth}
-use Rattle.tree_pivot.proofs.Laws.PathWalk.{OnPath, path_none, path_more, path_less}
-use Rattle.tree_pivot.proofs.Laws.PivotTables.{Complementing, complement_none, complement_more, complement_end}
+use Rattle.tree_pivot.proofs.Laws.PathWalk.{path_none, path_more, path_less}
+use Rattle.tree_pivot.proofs.Laws.PivotTables.{complement_none, complement_more, complement_end}
 use Rattle.tree_pivot.proofs.complement_path.Goals as goal
 
 pub loop-y-init : goal.loop-y-init

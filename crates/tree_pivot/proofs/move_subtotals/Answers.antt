@@ -36,13 +36,11 @@ complement_path-requires c =
     )
 
 pub returns : goal.returns
-unfolding begun found
 returns c =
-    let s = begun c in
     let is = c.subtotals_of-total.ensures in
     let t = c.shift_path.ensures in
     let g = c.shift_path-2.ensures in
     let r = c.complement_path.ensures in (
-      moved_totals s.pre.0 is.0 t.0 g.0 r.0,
-      (moved_totals s.pre.1.0 is.1.0 t.1.0 g.1.0 r.1.0, moved_totals s.pre.1.1 is.1.1 t.1.1 g.1.1 r.1.1),
+      moved_totals c.requires.0 is.0 t.0 g.0 r.0,
+      (moved_totals c.requires.1.0 is.1.0 t.1.0 g.1.0 r.1.0, moved_totals c.requires.1.1 is.1.1 t.1.1 g.1.1 r.1.1),
     )

@@ -1,12 +1,10 @@
 use Prim.Native.Nat.{◌<◌}
-use mathlib.Core.Path.{◌∙◌}
-use native.Mathlib.Omega.{arith}
 use Rattle.arithmetic.specs.Table.{at}
 use Rattle.rooted_tree.specs.Chain.{depth}
-use Rattle.tree_pivot.proofs.Laws.PathWalk.{OnPath, path_none, path_more, path_less, hand_none, hand_more, stored_none, stored_kept, stored_more, stored_end}
+use Rattle.tree_pivot.proofs.Laws.PathWalk.{OnPath}
 use Rattle.tree_pivot.specs.Steps.PathWalk.{Handed}
 use Rattle.tree_pivot.specs.Steps.PathReversal.{PathAdvanced}
-use Rattle.tree_pivot.proofs.Laws.PathReversal.{ParentsTurned, can_turn, turned}
+use Rattle.tree_pivot.proofs.Laws.PathReversal.{ParentsTurned}
 use Rattle.tree_pivot.proofs.reverse_path.Given as goal
 
 abbrev pub invariant-loop-y : goal.invariant-loop-y

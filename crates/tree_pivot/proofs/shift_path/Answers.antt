@@ -1,9 +1,6 @@
 use native.Mathlib.Omega.{arith}
-use Rattle.arithmetic.specs.Table.{at}
-use Rattle.rooted_tree.specs.Chain.{depth}
-use Rattle.tree_pivot.proofs.Laws.PathWalk.{OnPath, path_none, path_more, path_less, stored_none, stored_end}
+use Rattle.tree_pivot.proofs.Laws.PathWalk.{path_none, path_more, path_less, stored_none, stored_end}
 use Rattle.tree_pivot.proofs.Laws.PivotTables.{shift_room, shift_more}
-use Rattle.tree_pivot.specs.Steps.PivotTables.{PathShifted}
 use Rattle.tree_pivot.proofs.shift_path.Goals as goal
 
 pub loop-y-init : goal.loop-y-init

@@ -1,4 +1,6 @@
 // Checks 1 to 5 of a graph.
+#![tactic(auto)]
+
 ghost use Rattle.std.specs.Prelude.{◌≤◌, length};
 ghost use Rattle.graph.specs.Graph.{graph};
 ghost use Rattle.graph.specs.Checks.{edge_checks, graph_checks};

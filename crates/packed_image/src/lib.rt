@@ -1,4 +1,6 @@
 // Images with their sections back to back: the header, for any number of sections.
+#![tactic(auto)]
+
 ghost use Rattle.std.specs.Prelude.{◌≡◌, ◌++◌, ◌+◌, ◌*◌, ◌≤◌, ◌<◌, length};
 ghost use Rattle.arithmetic.specs.Table.{at, tab, appended, written};
 ghost use Rattle.little_endian.specs.LittleEndian.{byte_of};

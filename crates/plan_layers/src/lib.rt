@@ -1,4 +1,6 @@
 // The plan's rule on a tree that is given by its depths and the masks of its subtrees: vertices are taken by falling depth.
+#![tactic(auto)]
+
 ghost use Rattle.std.specs.Prelude.{◌≡◌, ℕ, ◌≤◌, ◌<◌, eqb};
 ghost use Rattle.arithmetic.specs.Table.{at};
 ghost use Rattle.arithmetic.specs.Steps.Mask.{bit};

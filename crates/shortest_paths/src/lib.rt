@@ -1,5 +1,7 @@
 // Shortest paths from a vertex: Bellman and Ford's method, with Yen's sweeps up and down in turn. One search from vertex 0 gives check 5, the distances from it and
 // the tree that the search for a best tree starts from.
+#![tactic(auto)]
+
 ghost use Rattle.graph.specs.Graph.{graph};
 ghost use Rattle.path_labels.specs.Steps.ShortestPathTree.{CanFindPaths, Searched};
 

@@ -1,13 +1,9 @@
-use mathlib.Core.Logic.{inl, inr, ⊎_elim}
-use borrow.Author.Tests.{eqb-true, eqb-false}
-use Rattle.arithmetic.specs.Steps.Mask.{bit}
-use Rattle.plan_rule.specs.Plan.{matched}
-use Rattle.plan_rule.proofs.Laws.Matching.{unmatched}
+use mathlib.Core.Logic.{inl, inr}
 use Rattle.plan_rule.proofs.Laws.Agreement.{agree_refl}
-use Rattle.plan_matching.specs.Steps.Residue.{residue, partial_plan, Progress}
 use Rattle.plan_matching.proofs.Laws.Progress.{progress_none}
 use Rattle.plan_matching.proofs.Laws.Matching.{both_word, both_positive, matching_less, matching_more, matching_end}
 use Rattle.plan_matching.proofs.match_subtree.Goals as goal
+use Rattle.plan_matching.proofs.match_subtree.Goals.{then-from-eq0-via-then-from-eq0, then-from-eq0-via-else-from-eq0+then-to-eq0}
 
 pub loop-n-init : goal.loop-n-init
 loop-n-init c = progress_none agree_refl c.requires.1
@@ -18,7 +14,7 @@ shape_of-plan-then-from-eq0 c = c.loop-n.invariant.kept.long
 pub returns-then-from-eq0 : goal.returns-then-from-eq0
 returns-then-from-eq0 c =
     matching_end _ _ c.requires.0 c.loop-n.invariant
-    (⊎_elim (λ w. inl w.taken) (λ w. inr (eqb-true _ _ w.1.taken)) c.if-from-eq0.branch)
+    (elim c.then-from-eq0.branch [ then-from-eq0-via-then-from-eq0 w ↦ inl w.if-from-eq0.true | then-from-eq0-via-else-from-eq0+then-to-eq0 w ↦ inr w.if-to-eq0.true ])
 
 pub lowest_vertex-i-requires : goal.lowest_vertex-i-requires
 lowest_vertex-i-requires c =
@@ -28,7 +24,7 @@ lowest_vertex-i-requires c =
 pub lowest_vertex-j-requires : goal.lowest_vertex-j-requires
 lowest_vertex-j-requires c =
     let v = c.loop-n.invariant.consistent in
-    (v.small, both_word _ _ _ _ c.requires.0 v.receivers_are, eqb-false _ _ c.if-to-eq0.false)
+    (v.small, both_word _ _ _ _ c.requires.0 v.receivers_are, c.if-to-eq0.false)
 
 pub send-requires : goal.send-requires
 send-requires c =

@@ -1,12 +1,7 @@
-use mathlib.Core.Logic.{inl, inr, ⊎_elim}
-use borrow.Author.Tests.{eqb-true, eqb-false}
 use Rattle.arithmetic.specs.Steps.Mask.{bit}
 use Rattle.plan_rule.specs.Plan.{matched}
 use Rattle.plan_rule.proofs.Laws.Matching.{unmatched}
-use Rattle.plan_rule.proofs.Laws.Agreement.{agree_refl}
 use Rattle.plan_matching.specs.Steps.Residue.{residue, partial_plan, Progress}
-use Rattle.plan_matching.proofs.Laws.Progress.{progress_none}
-use Rattle.plan_matching.proofs.Laws.Matching.{both_word, both_positive, matching_less, matching_more, matching_end}
 use Rattle.plan_matching.proofs.match_subtree.Given as goal
 
 abbrev pub invariant-loop-n : goal.invariant-loop-n

@@ -1,5 +1,4 @@
 use native.Mathlib.Omega.{arith}
-use borrow.Author.Rules.{rules}
 use Rattle.plan_matching.proofs.Laws.Sending.{sent_fits, word_has, send_done}
 use Rattle.plan_matching.proofs.send.Goals as goal
 

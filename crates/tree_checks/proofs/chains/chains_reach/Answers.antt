@@ -1,8 +1,5 @@
-use Prim.Native.Nat.{◌-◌, ◌<◌}
 use mathlib.Core.Path.{◌∙◌}
 use native.Mathlib.Omega.{arith}
-use Rattle.arithmetic.specs.Table.{at}
-use Rattle.tree_checks.specs.Steps.Doubling.{Ahead}
 use Rattle.tree_checks.proofs.Laws.Doubling.{ahead_first, ahead_end}
 use Rattle.tree_checks.proofs.chains.chains_reach.Goals as goal
 
@@ -12,7 +9,7 @@ first_steps-ahead-requires c = (omega arith, omega arith)
 pub loop-steps-init : goal.loop-steps-init
 loop-steps-init c =
     let f = c.first_steps-ahead in
-    (omega arith, ahead_first c.requires.1 f.result (omega (arith, f.ensures.0)) f.ensures.1)
+    (omega arith, ahead_first c.requires.tree f.result (omega (arith, f.ensures.0)) f.ensures.1)
 
 pub double_steps-requires : goal.double_steps-requires
 double_steps-requires c =
@@ -24,4 +21,4 @@ loop-steps-preserved c =
 
 pub returns : goal.returns
 returns c =
-    c.all_equal.ensures ∙ ahead_end c.requires.1 _ (omega arith) c.loop-steps.invariant.1
+    c.all_equal.ensures ∙ ahead_end c.requires.tree _ (omega arith) c.loop-steps.invariant.1

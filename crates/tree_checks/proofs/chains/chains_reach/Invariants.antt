@@ -1,9 +1,6 @@
 use Prim.Native.Nat.{◌-◌, ◌<◌}
-use mathlib.Core.Path.{◌∙◌}
-use native.Mathlib.Omega.{arith}
 use Rattle.arithmetic.specs.Table.{at}
 use Rattle.tree_checks.specs.Steps.Doubling.{Ahead}
-use Rattle.tree_checks.proofs.Laws.Doubling.{ahead_first, ahead_end}
 use Rattle.tree_checks.proofs.chains.chains_reach.Given as goal
 
 abbrev pub invariant-loop-steps : goal.invariant-loop-steps

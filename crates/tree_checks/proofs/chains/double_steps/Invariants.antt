@@ -1,7 +1,5 @@
-use Prim.Native.Nat.{◌-◌, ◌≤◌, ◌<◌}
-use native.Mathlib.Omega.{arith}
-use Rattle.arithmetic.specs.Table.{at}
-use Rattle.tree_checks.proofs.Laws.Doubling.{Doubling, doubling_none, doubling_more, doubling_end}
+use Prim.Native.Nat.{◌-◌, ◌≤◌}
+use Rattle.tree_checks.proofs.Laws.Doubling.{Doubling}
 use Rattle.tree_checks.proofs.chains.double_steps.Given as goal
 
 abbrev pub invariant-loop-x : goal.invariant-loop-x

@@ -1,8 +1,5 @@
-use Prim.Native.Nat.{◌-◌}
 use mathlib.Core.Path.{refl}
 use native.Mathlib.Omega.{arith}
-use Rattle.arithmetic.specs.Table.{at}
-use Rattle.arithmetic.specs.Steps.Fill.{Filling}
 use Rattle.arithmetic.proofs.Laws.Fill.{filling_none, filling_more, filled-end}
 use Rattle.tree_checks.proofs.chains.first_steps.Goals as goal
 

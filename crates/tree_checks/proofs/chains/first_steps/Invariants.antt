@@ -1,9 +1,6 @@
 use Prim.Native.Nat.{◌-◌}
-use mathlib.Core.Path.{refl}
-use native.Mathlib.Omega.{arith}
 use Rattle.arithmetic.specs.Table.{at}
 use Rattle.arithmetic.specs.Steps.Fill.{Filling}
-use Rattle.arithmetic.proofs.Laws.Fill.{filling_none, filling_more, filled-end}
 use Rattle.tree_checks.proofs.chains.first_steps.Given as goal
 
 abbrev pub invariant-loop-x : goal.invariant-loop-x

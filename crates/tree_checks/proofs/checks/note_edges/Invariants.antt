@@ -1,12 +1,8 @@
 use Prim.Native.Nat.{◌-◌, ◌≤◌}
-use native.Mathlib.Nat.{le_antisymm}
-use native.Mathlib.Omega.{arith}
 use lib.ListN.{length}
 use Rattle.arithmetic.specs.Table.{at}
 use Rattle.graph.specs.Graph.{graph}
-use Rattle.graph.proofs.Laws.Edge.{edge_order}
 use Rattle.tree_checks.specs.Steps.ParentEdges.{NotedTo}
-use Rattle.tree_checks.proofs.Laws.Edges.{noted_none, noted_more}
 use Rattle.tree_checks.proofs.checks.note_edges.Given as goal
 
 abbrev pub invariant-loop-e : goal.invariant-loop-e

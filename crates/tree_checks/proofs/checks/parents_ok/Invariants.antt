@@ -1,10 +1,6 @@
 use Prim.Native.Nat.{ℕ, ◌-◌, ◌≤◌, ◌<◌}
-use mathlib.Core.Path.{◌≡◌, sym}
-use native.Mathlib.Omega.{arith}
-use borrow.Author.Count.{below_more}
-use mathlib.Core.Logic.{⊎_elim}
+use mathlib.Core.Path.{◌≡◌}
 use Rattle.arithmetic.specs.Table.{at}
-use Rattle.tree_checks.proofs.Laws.TreeTests.{parents_hold, parents_fail}
 use Rattle.tree_checks.proofs.checks.parents_ok.Given as goal
 
 abbrev pub invariant-loop-x : goal.invariant-loop-x

@@ -1,17 +1,25 @@
-use mathlib.Core.Path.{refl, sym, ◌∙◌}
-use native.Mathlib.Omega.{arith}
-use borrow.Author.Rules.{rules}
+use mathlib.Core.Path.{sym, ◌∙◌}
 use Rattle.graph.specs.Graph.{graph}
 use Rattle.graph.proofs.Laws.Accepted.{lists_in}
 use Rattle.tree_checks.proofs.Laws.Edges.{noted_lengths, noted_answer}
 use Rattle.tree_checks.proofs.checks.tree_edges_ok.Goals as goal
 
-pub note_edges-requires : goal.note_edges-requires
-note_edges-requires c =
+pub note_edges-requires-clause-lists : goal.note_edges-requires-clause-lists
+note_edges-requires-clause-lists c =
     let g = graph c.args.n c.args.a.now c.args.b.now c.args.lengths.now in
-    ((omega arith, (omega arith, omega arith)), (lists_in g c.requires.1.0, (c.requires.1.1, refl)))
+    lists_in g c.requires.graph.0
 
-pub returns : goal.returns
-returns c =
+pub note_edges-requires-clause-order : goal.note_edges-requires-clause-order
+note_edges-requires-clause-order c =
+    let g = graph c.args.n c.args.a.now c.args.b.now c.args.lengths.now in
+    c.requires.graph.1
+
+pub returns-clause-answer : goal.returns-clause-answer
+returns-clause-answer c =
     let w = c.note_edges.ensures in
-    (c.all_joined.ensures ∙ noted_answer _ _ w _, λ e. noted_lengths _ _ w _ (sym c.all_joined.ensures ∙ e))
+    c.all_joined.ensures ∙ noted_answer _ _ w _
+
+pub returns-clause-table : goal.returns-clause-table
+returns-clause-table c =
+    let w = c.note_edges.ensures in
+    λ e. noted_lengths _ _ w _ (sym c.all_joined.ensures ∙ e)

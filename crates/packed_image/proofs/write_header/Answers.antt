@@ -1,0 +1,8 @@
+use Rattle.packed_image.proofs.Laws.Written.{header-placed}
+use Rattle.packed_image.proofs.write_header.Goals as goal
+
+-- `write_header` meets its contract.
+pub returns : goal.returns
+returns c =
+    header-placed _ _ _ _ _ _ _ _ _ _ c.requires.1 c.put_byte.ensures c.put_byte-2.ensures c.put_two.ensures
+    c.write_pairs.ensures

@@ -1,5 +1,7 @@
 // The distances from a vertex by Dijkstra's method. The frontier is the word of the vertices that are reached and not settled: the nearest of them is settled next, and
 // its edges lower the labels of their other ends. Each edge is looked at twice, and the frontier as often as there are vertices: O(n² + m).
+#![tactic(auto)]
+
 ghost use Rattle.std.specs.Prelude.{◌≡◌, ◌≤◌, ◌<◌, length};
 ghost use Rattle.arithmetic.specs.Table.{at};
 ghost use Rattle.graph.specs.Graph.{graph};

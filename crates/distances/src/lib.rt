@@ -1,4 +1,6 @@
 // The distances between the vertices of a graph.
+#![tactic(auto)]
+
 ghost use Rattle.std.specs.Prelude.{◌≡◌};
 ghost use Rattle.graph.specs.Graph.{graph};
 ghost use Rattle.distances.specs.Distances.{distances_refusal, distances_table};

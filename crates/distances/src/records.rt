@@ -15,7 +15,7 @@ pub struct EdgeRecord {
 }
 
 // The fields of up to 512 edges, each in a table of its own.
-#[derive(Clone, Copy)]
+#[derive(Drop)]
 struct Columns {
     a: [u32; 512],
     b: [u32; 512],

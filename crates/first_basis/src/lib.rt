@@ -1,4 +1,6 @@
 // The first basis of the search, from a spanning tree of the graph.
+#![tactic(auto)]
+
 ghost use Rattle.std.specs.Prelude.{◌≡◌, List, ℕ, ◌+◌, ◌*◌, ◌^◌, ◌≤◌, ◌<◌, eqb, cond, length};
 ghost use Rattle.arithmetic.specs.Table.{at};
 ghost use Rattle.rooted_tree.specs.Steps.Subtotal.{subtotal};

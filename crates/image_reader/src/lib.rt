@@ -1,4 +1,6 @@
 // The image reader.
+#![tactic(auto)]
+
 mod sections; // what the sections hold
 
 ghost use Rattle.image_reader.specs.Steps.Held.{Held, Counted};

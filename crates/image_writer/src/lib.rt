@@ -1,4 +1,6 @@
 // The writer of images: one image for one patch with its paintings and tree.
+#![tactic(auto)]
+
 mod checks; // checks 1, 2 and 13
 
 ghost use Rattle.std.specs.Prelude.{◌≡◌, [], ◌∷◌, ◌*◌, ◌≤◌, length};

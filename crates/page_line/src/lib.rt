@@ -1,4 +1,6 @@
 // The line of a vertex on the page of a tree, written into a lent buffer: each writer puts its text from a place on and returns the place behind it.
+#![tactic(auto)]
+
 ghost use Rattle.std.specs.Prelude.{◌≡◌, ◌++◌, ◌+◌, ◌≤◌, ◌<◌, length};
 ghost use Rattle.decimal_text.specs.Decimal.{signed_decimal};
 ghost use Rattle.decimal_text.specs.Steps.Wrote.{Wrote};

@@ -1,4 +1,6 @@
 // The ratio test: the edge that leaves the tree, where another enters.
+#![tactic(auto)]
+
 ghost use Rattle.std.specs.Prelude.{◌≡◌, ◌≤◌, ◌<◌};
 ghost use Rattle.arithmetic.specs.Table.{at};
 ghost use Rattle.arithmetic.specs.Steps.Mask.{bit};

@@ -1,2 +1,4 @@
 // Spanning trees of a graph, by value.
+#![tactic(auto)]
+
 pub mod tree;

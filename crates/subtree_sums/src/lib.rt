@@ -1,4 +1,6 @@
 // Sums on a tree: the masses below each vertex, by the depths, and what is raised and lowered above one, by the words.
+#![tactic(auto)]
+
 ghost use Rattle.std.specs.Prelude.{◌≡◌, ◌^◌, ◌≤◌, ◌<◌, length};
 ghost use Rattle.arithmetic.specs.Sum.{sum};
 ghost use Rattle.arithmetic.specs.Table.{at};

@@ -1,4 +1,6 @@
 // A transport problem: a connected graph and two paintings of equal total. Checks 1 to 7.
+#![tactic(auto)]
+
 ghost use Rattle.std.specs.Prelude.{◌≡◌, ◌≤◌, length};
 ghost use Rattle.graph.specs.Graph.{graph};
 ghost use Rattle.transport_problem.specs.Checks.{measures_long};

@@ -1,5 +1,7 @@
 // The figures of a tree: imbalance, cost and potential, from tables. `above` holds the length from each vertex to its parent, `supply` and
 // `demand` the masses of mu and nu below it, `masks` the words of the vertices below each.
+#![tactic(auto)]
+
 ghost use Rattle.std.specs.Prelude.{◌≡◌, ◌++◌, ◌*◌, ◌^◌, ◌≤◌, ◌<◌, pos, length, drop, get_or};
 ghost use Rattle.std.proofs.Math.IntN.{sub_ℕ};
 ghost use Rattle.std.specs.Int.Signed.{mag};

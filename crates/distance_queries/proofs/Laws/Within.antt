@@ -10,10 +10,9 @@ use lib.Dec.{eqb, ltb, leb, lit<}
 use lib.Pow.{pow_mono}
 use borrow.Author.Tests.{le-ltb, lt-ltb, eqb-true, eqb-false}
 use Rattle.arithmetic.specs.Mask.{mask}
-use Rattle.arithmetic.specs.Refusal.{refusal}
 use Rattle.arithmetic.specs.Sum.{pick}
 use Rattle.arithmetic.specs.Table.{at}
-use Rattle.arithmetic.proofs.Laws.Bools.{case, case<}
+use Rattle.arithmetic.proofs.Laws.Bools.{case<}
 use Rattle.arithmetic.proofs.Laws.Mask.{mask_ext, mask_lt, bit_mask, shl_one}
 use Rattle.arithmetic.proofs.Laws.Table.{result_refused}
 use Rattle.vertex_set.proofs.Laws.Words.{or_above, mask_step, mask_under}

@@ -19,7 +19,7 @@ use Rattle.distances.specs.Distances.{distances_refusal, distances_table}
 use Rattle.distances.specs.Records.{lower_of, upper_of, length_of, graph_of_records}
 use Rattle.distances.specs.Steps.Records.{no_edge, column, columns_of, Full, OfColumns}
 
--- ---- the covered part
+-- ---- the call over three tables
 module _ (n m : ℕ) (c : Columns) (out : List ℕ) (h : 512 < m) where
   pub refused_2 : (r : Bool) → r ≡ vertices_ok n → r ≡ true → OfColumns n m c out 2 out
   refused_2 r e t = record { few = λ g. absurd (omega arith); many = λ _. (rw (sym e ∙ t), refl) }

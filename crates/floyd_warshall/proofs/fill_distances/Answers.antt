@@ -1,8 +1,6 @@
-use Prim.Native.Nat.{◌≤◌, ◌-◌}
 use native.Mathlib.Omega.{arith}
 use Rattle.graph.specs.Graph.{Graph, graph}
-use Rattle.graph.specs.Distance.{via}
-use Rattle.floyd_warshall.proofs.Laws.FloydWarshall.{Fills, via_none, via_bounded, via-zero, via_more, via-end}
+use Rattle.floyd_warshall.proofs.Laws.FloydWarshall.{via_none, via_bounded, via-zero, via_more, via-end}
 use Rattle.floyd_warshall.proofs.fill_distances.Goals as goal
 
 pub start-requires : goal.start-requires

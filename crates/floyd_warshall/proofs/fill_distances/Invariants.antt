@@ -1,8 +1,7 @@
 use Prim.Native.Nat.{◌≤◌, ◌-◌}
-use native.Mathlib.Omega.{arith}
-use Rattle.graph.specs.Graph.{Graph, graph}
+use Rattle.graph.specs.Graph.{graph}
 use Rattle.graph.specs.Distance.{via}
-use Rattle.floyd_warshall.proofs.Laws.FloydWarshall.{Fills, via_none, via_bounded, via-zero, via_more, via-end}
+use Rattle.floyd_warshall.proofs.Laws.FloydWarshall.{Fills}
 use Rattle.floyd_warshall.proofs.fill_distances.Given as goal
 
 abbrev pub invariant-loop-k : goal.invariant-loop-k

@@ -1,7 +1,5 @@
-use Prim.Native.Nat.{◌≤◌, ◌-◌}
 use native.Mathlib.Omega.{arith}
-use Rattle.arithmetic.specs.Steps.Table.{cell}
-use Rattle.floyd_warshall.proofs.Laws.FloydWarshall.{Fills, phase_to, phase_none, phase_bounded, phase_more, phase_end}
+use Rattle.floyd_warshall.proofs.Laws.FloydWarshall.{phase_none, phase_bounded, phase_more, phase_end}
 use Rattle.floyd_warshall.proofs.phase.Goals as goal
 
 pub loop-i-init : goal.loop-i-init

@@ -1,12 +1,11 @@
-use Prim.Native.Nat.{◌≤◌, ◌-◌}
+use Prim.Native.Nat.{◌≤◌}
 use mathlib.Core.Path.{◌≡◌}
 use native.Mathlib.Omega.{arith}
 use lib.ListN.{length}
-use Rattle.arithmetic.specs.Steps.Table.{cell}
 use Rattle.graph.specs.Graph.{Graph, graph}
 use Rattle.graph.proofs.Laws.Edge.{edge_order}
 use Rattle.graph.proofs.Laws.Accepted.{lists_fit_in}
-use Rattle.floyd_warshall.proofs.Laws.FloydWarshall.{Fills, edges_to, edges_none, edges_more, edges-end}
+use Rattle.floyd_warshall.proofs.Laws.FloydWarshall.{edges_none, edges_more, edges-end}
 use Rattle.floyd_warshall.proofs.put_edges.Goals as goal
 
 pub loop-e-init : goal.loop-e-init

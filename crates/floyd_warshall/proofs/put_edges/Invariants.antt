@@ -1,12 +1,8 @@
 use Prim.Native.Nat.{◌≤◌, ◌-◌}
-use mathlib.Core.Path.{◌≡◌}
-use native.Mathlib.Omega.{arith}
 use lib.ListN.{length}
 use Rattle.arithmetic.specs.Steps.Table.{cell}
-use Rattle.graph.specs.Graph.{Graph, graph}
-use Rattle.graph.proofs.Laws.Edge.{edge_order}
-use Rattle.graph.proofs.Laws.Accepted.{lists_fit_in}
-use Rattle.floyd_warshall.proofs.Laws.FloydWarshall.{Fills, edges_to, edges_none, edges_more, edges-end}
+use Rattle.graph.specs.Graph.{graph}
+use Rattle.floyd_warshall.proofs.Laws.FloydWarshall.{Fills, edges_to}
 use Rattle.floyd_warshall.proofs.put_edges.Given as goal
 
 abbrev pub invariant-loop-e : goal.invariant-loop-e

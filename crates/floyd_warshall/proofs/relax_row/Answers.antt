@@ -1,11 +1,9 @@
-use Prim.Native.Nat.{◌+◌, ◌*◌, ◌≤◌, ◌-◌}
+use Prim.Native.Nat.{◌+◌, ◌*◌, ◌≤◌}
 use mathlib.Core.Path.{refl}
 use native.Mathlib.Omega.{arith}
 use lib.ListN.{length}
-use borrow.Author.Rules.{rules}
-use Rattle.arithmetic.specs.Steps.Table.{cell}
 use Rattle.arithmetic.proofs.Laws.Table.{row_below}
-use Rattle.floyd_warshall.proofs.Laws.FloydWarshall.{Fills, row_to, row_none, row_ahead, row_more, row_end}
+use Rattle.floyd_warshall.proofs.Laws.FloydWarshall.{row_none, row_ahead, row_more, row_end}
 use Rattle.floyd_warshall.proofs.relax_row.Goals as goal
 
 pub overflow_mul-row : goal.overflow_mul-row

@@ -1,11 +1,6 @@
-use Prim.Native.Nat.{◌+◌, ◌*◌, ◌≤◌, ◌-◌}
-use mathlib.Core.Path.{refl}
-use native.Mathlib.Omega.{arith}
-use lib.ListN.{length}
-use borrow.Author.Rules.{rules}
+use Prim.Native.Nat.{◌≤◌, ◌-◌}
 use Rattle.arithmetic.specs.Steps.Table.{cell}
-use Rattle.arithmetic.proofs.Laws.Table.{row_below}
-use Rattle.floyd_warshall.proofs.Laws.FloydWarshall.{Fills, row_to, row_none, row_ahead, row_more, row_end}
+use Rattle.floyd_warshall.proofs.Laws.FloydWarshall.{Fills, row_to}
 use Rattle.floyd_warshall.proofs.relax_row.Given as goal
 
 abbrev pub invariant-loop-j : goal.invariant-loop-j

@@ -1,4 +1,3 @@
-use borrow.Author.Rules.{rules}
 use Rattle.graph.specs.Graph.{graph}
 use Rattle.floyd_warshall.proofs.Laws.FloydWarshall.{via-start}
 use Rattle.floyd_warshall.proofs.start.Goals as goal

@@ -1,7 +1,5 @@
-use Prim.Native.Nat.{◌≤◌, ◌-◌}
 use native.Mathlib.Omega.{arith}
-use Rattle.arithmetic.specs.Steps.Table.{cell}
-use Rattle.floyd_warshall.proofs.Laws.FloydWarshall.{Fills, diagonal_to, diagonal_none, diagonal_more, diagonal_end}
+use Rattle.floyd_warshall.proofs.Laws.FloydWarshall.{diagonal_none, diagonal_more, diagonal_end}
 use Rattle.floyd_warshall.proofs.zero_diagonal.Goals as goal
 
 pub loop-i-init : goal.loop-i-init

@@ -1,7 +1,6 @@
 use Prim.Native.Nat.{◌≤◌, ◌-◌}
-use native.Mathlib.Omega.{arith}
 use Rattle.arithmetic.specs.Steps.Table.{cell}
-use Rattle.floyd_warshall.proofs.Laws.FloydWarshall.{Fills, diagonal_to, diagonal_none, diagonal_more, diagonal_end}
+use Rattle.floyd_warshall.proofs.Laws.FloydWarshall.{Fills, diagonal_to}
 use Rattle.floyd_warshall.proofs.zero_diagonal.Given as goal
 
 abbrev pub invariant-loop-i : goal.invariant-loop-i

@@ -1,1 +1,3 @@
+#![tactic(auto)]
+
 // What a best answer is, and the certificate theorem: a spanning tree and a potential of equal weight. There is no code here.

@@ -1,4 +1,6 @@
 // Checks 1 to 10 of a call that is given a tree.
+#![tactic(auto)]
+
 ghost use Rattle.std.specs.Prelude.{◌≡◌, ◌≤◌, length};
 ghost use Rattle.graph.specs.Graph.{graph};
 ghost use Rattle.given_tree.specs.Given.{given, parents_long, answers_ok};

@@ -1,4 +1,6 @@
 // An image written anew: what it holds, with sections back to back.
+#![tactic(auto)]
+
 ghost use Rattle.std.specs.Prelude.{not, ◌≤◌, length, take, eqb};
 ghost use Rattle.graph.specs.Graph.{graph};
 ghost use Rattle.image.specs.Contents.{contents};

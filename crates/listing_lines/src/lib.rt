@@ -1,4 +1,6 @@
 // The listing's lines, written into a lent buffer.
+#![tactic(auto)]
+
 ghost use Rattle.std.specs.Prelude.{◌≡◌, ◌++◌, ◌+◌, ◌*◌, ◌≤◌, ◌<◌, length};
 ghost use Rattle.arithmetic.specs.Steps.Table.{cell};
 ghost use Rattle.arithmetic.specs.Table.{written};

@@ -1,4 +1,6 @@
 // The plan of a tree: what both measures share stays, and each vertex's surplus is sent to deficits, by falling depth.
+#![tactic(auto)]
+
 ghost use Rattle.std.specs.Prelude.{◌≡◌, ◌++◌, ◌+◌, ◌*◌, ◌≤◌, ◌<◌, ◌^◌, ltb, length, drop};
 ghost use Rattle.arithmetic.specs.Sum.{pick};
 ghost use Rattle.arithmetic.specs.Table.{at, matrix};

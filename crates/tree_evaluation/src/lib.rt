@@ -1,4 +1,6 @@
 // Evaluating a given tree, document 01's weighing.
+#![tactic(auto)]
+
 ghost use Rattle.std.specs.Prelude.{◌≡◌, List, ◌++◌, ℕ, ◌≤◌, length, drop};
 ghost use Rattle.arithmetic.specs.Table.{at, tab};
 ghost use Rattle.arithmetic.specs.Mask.{mask};

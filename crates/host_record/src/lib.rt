@@ -1,4 +1,6 @@
 // The host record, written into a lent buffer.
+#![tactic(auto)]
+
 ghost use Rattle.std.specs.Prelude.{◌≡◌, ◌++◌, ◌+◌, ◌*◌, ◌≤◌, ◌<◌, length, get_or, pos};
 ghost use Rattle.arithmetic.specs.Table.{at, tab, written};
 ghost use Rattle.little_endian.specs.LittleEndian.{byte_of, fields, signed};

@@ -1,4 +1,6 @@
 // The best call: a best tree, its plan and a potential that certifies both.
+#![tactic(auto)]
+
 ghost use Rattle.std.specs.Prelude.{◌≡◌, ◌++◌, ◌^◌, ◌≤◌, length, drop};
 ghost use Rattle.std.proofs.Math.IntN.{sub_ℕ};
 ghost use Rattle.arithmetic.specs.Table.{at, tab};

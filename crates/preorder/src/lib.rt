@@ -1,5 +1,7 @@
 // A tree printed in preorder: each vertex has its line and is followed by its children by rising number, each with its whole subtree before the
 // following child. Each printer writes from a place of a lent buffer on and returns the place behind.
+#![tactic(auto)]
+
 ghost use Rattle.std.specs.Prelude.{◌≡◌, ◌+◌, ◌*◌, ◌≤◌, ◌<◌, length};
 ghost use Rattle.arithmetic.specs.Table.{at, written};
 ghost use Rattle.rooted_tree.specs.Chain.{is_child};

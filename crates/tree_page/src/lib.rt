@@ -1,4 +1,6 @@
 // The page of a given tree: a line for each vertex, indented by its depth, with its imbalance and its potential.
+#![tactic(auto)]
+
 ghost use Rattle.std.specs.Prelude.{List, ℕ, ◌≤◌, length};
 ghost use Rattle.arithmetic.specs.Table.{at};
 ghost use Rattle.graph.specs.Graph.{graph};

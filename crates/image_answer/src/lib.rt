@@ -1,4 +1,6 @@
 // The answer to an image: read, and its tree evaluated or the best answer found, into lent tables.
+#![tactic(auto)]
+
 ghost use Rattle.std.specs.Prelude.{◌≡◌, true, List, [], ℕ, ◌*◌, ◌≤◌, length, leb};
 ghost use Rattle.image.specs.Image.{vertex_count};
 ghost use Rattle.image_reader.specs.Read.{Lists, lists, Read};

@@ -1,4 +1,6 @@
 // The exported entry, which answers an image by its record.
+#![tactic(auto)]
+
 ghost use Rattle.std.specs.Prelude.{◌≡◌, true, ◌≤◌, length};
 ghost use Rattle.image.specs.Image.{vertex_count};
 ghost use Rattle.image_answer.specs.Steps.Answered.{Spacious};

@@ -1,4 +1,6 @@
 // The listing of an image, written into a lent buffer.
+#![tactic(auto)]
+
 ghost use Rattle.listing.specs.Listing.{Listed};
 
 use image_answer::answer_image;

@@ -1,8 +1,10 @@
 // The report on a sequence of images: how many are accepted or refused under each number, and what they cost.
+#![tactic(auto)]
+
 pub mod figures; // what is returned
 
 ghost use Rattle.std.specs.Prelude.{◌≡◌, true, ◌+◌, ◌<◌, leb, length};
-ghost use Rattle.arithmetic.specs.Table.{tab, result, written};
+ghost use Rattle.arithmetic.specs.Table.{tab, result as result_of, written};
 ghost use Rattle.image_sequence.specs.Sequence.{image_count, sequence_ok};
 ghost use Rattle.sequence_report.specs.Report.{images_with, Reported};
 ghost use Rattle.sequence_report.specs.Steps.Told.{Told};
@@ -24,7 +26,7 @@ fn add_image(
     plan: &mut [u32; 4096],
 ) -> Sheet
     requires { (sequence_ok reel.now ≡ true) × (i < image_count reel.now) × (i < 65536) × Told reel.now i sheet }
-    ensures* { λ r. ⌜ Told reel.now (i + 1) r ⌝ }
+    ensures { Told reel.now (i + 1) result }
 {
     let answer = answer_image(image_at(reel, i), RECORD, potential, plan);
     sheet.with(i, answer.refusal, answer.cost)
@@ -33,7 +35,7 @@ fn add_image(
 // The sheet of all images.
 fn sheet_of(reel: &[u8]) -> Sheet
     requires { sequence_ok reel.now ≡ true }
-    ensures* { λ r. ⌜ Told reel.now (image_count reel.now) r ⌝ }
+    ensures { Told reel.now (image_count reel.now) result }
 {
     let mut potential = [0i32; 64];
     let mut plan = [0u32; 4096];
@@ -47,7 +49,7 @@ fn sheet_of(reel: &[u8]) -> Sheet
 
 // A refusal: all results are 0.
 fn refused(refusal: u32) -> Totals
-    ensures* { λ r. ⌜ (r.refusal ≡ refusal) × (r.accepted ≡ 0) × (r.sum ≡ 0) × (r.greatest ≡ 0) × (r.first ≡ 0) ⌝ }
+    ensures { (result.refusal ≡ refusal) × (result.accepted ≡ 0) × (result.sum ≡ 0) × (result.greatest ≡ 0) × (result.first ≡ 0) }
 {
     Totals {
         refusal,
@@ -60,8 +62,8 @@ fn refused(refusal: u32) -> Totals
 
 // The report on a sequence of images in bytes, with the counts in a lent table: 14, or 2 if the table is too short.
 pub fn report_into(reel: &[u8], tally: &mut [u32]) -> Totals
-    ensures* fact { λ r. ⌜ Reported reel.now (leb 24 (length tally.old)) r.refusal r.accepted r.sum r.greatest r.first ⌝ }
-    ensures* tally { λ r. ⌜ tally.new ≡ written r.refusal (tab 24 (images_with reel.now)) tally.old ⌝ }
+    ensures fact { Reported reel.now (leb 24 (length tally.old)) result.refusal result.accepted result.sum result.greatest result.first }
+    ensures tally { tally.new ≡ written result.refusal (tab 24 (images_with reel.now)) tally.old }
 {
     if !sequence_ok(reel) {
         return refused(14);
@@ -83,8 +85,8 @@ pub fn report_into(reel: &[u8], tally: &mut [u32]) -> Totals
 
 // The same with the counts by value.
 pub fn report(reel: &[u8]) -> Report
-    ensures* fact { λ r. ⌜ Reported reel.now true r.refusal r.accepted r.sum r.greatest r.first ⌝ }
-    ensures* tally { λ r. ⌜ r.tally ≡ tab 24 (λ k. result r.refusal (images_with reel.now k)) ⌝ }
+    ensures fact { Reported reel.now true result.refusal result.accepted result.sum result.greatest result.first }
+    ensures tally { result.tally ≡ tab 24 (λ k. result_of result.refusal (images_with reel.now k)) }
 {
     let mut tally = [0u32; 24];
     let totals = report_into(reel, &mut tally);

@@ -1,4 +1,6 @@
 // Every call for hosts in C: the calls of the crates below under exported names, each further result written through a reference.
+#![tactic(auto)]
+
 ghost use Rattle.std.specs.Prelude.{◌≡◌};
 ghost use Rattle.graph.specs.Graph.{graph};
 ghost use Rattle.distances.specs.Distances.{distances_refusal, distances_table};

@@ -4,7 +4,8 @@
 pub mod figures; // what is returned
 
 ghost use Rattle.std.specs.Prelude.{◌≡◌, true, ◌+◌, ◌<◌, leb, length};
-ghost use Rattle.arithmetic.specs.Table.{tab, result as result_of, written};
+ghost use Rattle.arithmetic.specs.Table.{tab, written};
+ghost use Rattle.arithmetic.specs.Table as Table;
 ghost use Rattle.image_sequence.specs.Sequence.{image_count, sequence_ok};
 ghost use Rattle.sequence_report.specs.Report.{images_with, Reported};
 ghost use Rattle.sequence_report.specs.Steps.Told.{Told};
@@ -86,7 +87,7 @@ pub fn report_into(reel: &[u8], tally: &mut [u32]) -> Totals
 // The same with the counts by value.
 pub fn report(reel: &[u8]) -> Report
     ensures fact { Reported reel.now true result.refusal result.accepted result.sum result.greatest result.first }
-    ensures tally { result.tally ≡ tab 24 (λ k. result_of result.refusal (images_with reel.now k)) }
+    ensures tally { result.tally ≡ tab 24 (λ k. Table.result result.refusal (images_with reel.now k)) }
 {
     let mut tally = [0u32; 24];
     let totals = report_into(reel, &mut tally);

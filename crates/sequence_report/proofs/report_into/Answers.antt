@@ -5,6 +5,7 @@ use Rattle.arithmetic.proofs.Laws.Table.{written_refused}
 use Rattle.sequence_report.proofs.Laws.Report.{not_sequence, no_room, as_refused, all_told, counts-written}
 use Rattle.sequence_report.proofs.report_into.Goals as goal
 
+-- `report_into` meets its contract.
 pub returns-then-not-sequence_ok : goal.returns-then-not-sequence_ok
 returns-then-not-sequence_ok c = record {
   fact = as_refused _ c.refused.ensures (not_sequence _ _ (sym c.sequence_ok.ensures ∙ c.if-not-sequence_ok.true));

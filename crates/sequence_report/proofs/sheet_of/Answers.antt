@@ -7,9 +7,6 @@ use Rattle.sequence_report.proofs.sheet_of.Goals as goal
 pub image_count-count-requires : goal.image_count-count-requires
 image_count-count-requires c = two_bytes _ c.requires
 
-pub new-sheet-requires : goal.new-sheet-requires
-new-sheet-requires c = tt
-
 pub loop-i-init : goal.loop-i-init
 loop-i-init c =
     (omega arith, tells_at refl c.image_count-count.ensures.0 (c.new-sheet.ensures _ _))

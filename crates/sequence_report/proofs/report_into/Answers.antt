@@ -14,7 +14,7 @@ returns-then-not-sequence_ok c = record {
 
 pub returns-then-tally-lt-PLACES : goal.returns-then-tally-lt-PLACES
 returns-then-tally-lt-PLACES c = record {
-  fact = as_refused _ c.refused-then-tally-lt-PLACES.ensures (no_room _ (sym c.sequence_ok.ensures ∙ c.if-not-sequence_ok.false) (lt-leb 24 _ c.if-tally-lt-PLACES.true));
+  fact = as_refused _ c.refused-then-tally-lt-PLACES.ensures (no_room _ (sym c.sequence_ok.ensures ∙ c.if-not-sequence_ok.false) (lt-leb 24 _ (omega (arith, c.if-tally-lt-PLACES.true))));
   tally = written_refused c.refused-then-tally-lt-PLACES.result.refusal _ _ (omega (arith, c.refused-then-tally-lt-PLACES.ensures.0));
 }
 
@@ -24,6 +24,6 @@ sheet_of-sheet-requires c =
 
 pub returns : goal.returns
 returns c = record {
-  fact = all_told _ c.sheet_of-sheet.ensures (sym c.sequence_ok.ensures ∙ c.if-not-sequence_ok.false) (le-leb 24 _ c.if-tally-lt-PLACES.false);
+  fact = all_told _ c.sheet_of-sheet.ensures (sym c.sequence_ok.ensures ∙ c.if-not-sequence_ok.false) (le-leb 24 _ (omega (arith, c.if-tally-lt-PLACES.false)));
   tally = counts-written _ c.sheet_of-sheet.ensures _ c.write_tally.ensures;
 }

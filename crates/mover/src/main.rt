@@ -1,6 +1,7 @@
-#![tactic(auto)]
 // The program: reads an image on standard input and prints its listing. One byte more than the largest image is read, so that a longer
 // one is refused 11.
+#![tactic(auto)]
+
 ghost use Rattle.std.specs.Prelude.{◌≤◌, length, IfOk};
 
 use listing::write_listing;

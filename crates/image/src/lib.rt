@@ -4,7 +4,7 @@
 ghost use Rattle.std.specs.Prelude.{◌≡◌, ◌&&◌, ◌≤◌, ◌<◌, length, leb};
 ghost use Rattle.arithmetic.specs.Refusal.{refusal};
 ghost use Rattle.graph.specs.Checks.{vertices_ok};
-ghost use Rattle.image.specs.Image.{vertex_count, edge_count, first_offset, section_count, size_ok, sections_ok, layout_ok, offset as offset_of, extent as extentOf};
+ghost use Rattle.image.specs.Image.{vertex_count, edge_count, first_offset, section_count, size_ok, sections_ok, layout_ok, offset as offset_of, extent as extent_of};
 ghost use Rattle.image.specs.ImageChecks.{image_checks, room_in};
 
 use directory::pairs_ok;
@@ -50,7 +50,7 @@ pub fn offset(image: &[u8], t: usize) -> usize
 // How many bytes section t has.
 pub fn extent(image: &[u8], t: usize) -> usize
     requires { (first_offset image.now ≤ length image.now) × (t < section_count image.now) }
-    ensures { (result ≡ extentOf image.now t) × (result < 4294967296) }
+    ensures { (result ≡ extent_of image.now t) × (result < 4294967296) }
 {
     directory::extent(image, PAIRS, t)
 }

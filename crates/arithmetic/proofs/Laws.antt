@@ -1,6 +1,7 @@
 pub mod Bools
 pub mod Table
 pub mod Fill
+pub mod Slices
 pub mod Product
 pub mod Sum
 pub mod Appended

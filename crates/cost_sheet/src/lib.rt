@@ -1,7 +1,7 @@
 // A sheet of outcomes: how many there are of each number, and what the costs of the accepted ones come to.
 #![tactic(auto)]
 
-ghost use Rattle.std.specs.Prelude.{◌≡◌, ◌||◌, ℕ, ◌+◌, ◌^◌, ◌≤◌, ◌<◌, length, eqb, ltb};
+ghost use Rattle.std.specs.Prelude.{◌≡◌, ℕ, ◌+◌, ◌^◌, ◌≤◌, ◌<◌, length};
 ghost use Rattle.arithmetic.specs.Table.{at, tab, written};
 ghost use Rattle.cost_sheet.specs.Steps.Sheet.{Tells};
 
@@ -14,48 +14,38 @@ pub struct Sheet {
     pub tally: [u32; 24],
     pub sum: u64,
     pub greatest: u64,
-    pub first: usize,
-}
-
-// A cost takes the place of the greatest so far: it is greater, or the first.
-fn takes_over(accepted: u32, greatest: u64, cost: u64) -> bool
-    ensures { result ≡ eqb accepted 0 || ltb greatest cost }
-{
-    if accepted == 0 {
-        return true;
-    }
-    greatest < cost
+    pub first: Option<usize>,
 }
 
 impl Sheet {
-    // No outcome yet; `none` is the first while none is accepted.
-    pub fn new(none: usize) -> Sheet
-        ensures { (number cost : ℕ → ℕ) → Tells 0 none number cost result }
+    // No outcome yet.
+    pub fn new() -> Sheet
+        ensures { (number cost : ℕ → ℕ) → Tells 0 number cost result }
     {
         Sheet {
             tally: [0u32; 24],
             sum: 0,
             greatest: 0,
-            first: none,
+            first: None,
         }
     }
 
-    // One outcome more, the i-th: a refusal's number, or 0 and a cost.
+    // One outcome more, the i-th: a refusal's number, or 0 and a cost. It stays a number: the clause takes any below 24, and the sheet knows nothing
+    // of the refusals.
     pub fn with(mut self, i: usize, refusal: u32, cost: u64) -> Sheet
         requires { (refusal < 24) × (at self.tally refusal + 1 < 2 ^ 32) × (refusal ≡ 0 → self.sum + cost < 2 ^ 64) }
-        ensures { (none : ℕ) (numbers costs : ℕ → ℕ) → Tells i none numbers costs self → refusal ≡ numbers i → (refusal ≡ 0 → cost ≡ costs i)
-            → Tells (i + 1) none numbers costs result }
+        ensures { (numbers costs : ℕ → ℕ) → Tells i numbers costs self → refusal ≡ numbers i → (refusal ≡ 0 → cost ≡ costs i)
+            → Tells (i + 1) numbers costs result }
     {
-        let accepted = self.tally[0];
         let k = refusal as usize;
         self.tally[k] += 1;
         if refusal != 0 {
             return self;
         }
         self.sum += cost;
-        if takes_over(accepted, self.greatest, cost) {
+        if self.first.is_none() || self.greatest < cost {
             self.greatest = cost;
-            self.first = i;
+            self.first = Some(i);
         }
         self
     }
@@ -66,7 +56,5 @@ pub fn write_tally(tally: [u32; 24], out: &mut [u32])
     requires { 24 ≤ length out.old }
     ensures { out.new ≡ written 0 (tab 24 (at tally)) out.old }
 {
-    for k in 0..PLACES {
-        out[k] = tally[k];
-    }
+    out[..PLACES].copy_from_slice(&tally);
 }

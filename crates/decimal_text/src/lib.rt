@@ -1,7 +1,8 @@
 // Numbers in base ten and other text, written into a lent buffer: each writer puts its text from a place on and returns the place behind it.
+// Not by Display: there is no heap here, and what is proved is the bytes.
 #![tactic(auto)]
 
-ghost use Rattle.std.specs.Prelude.{◌≡◌, [], ◌∷◌, ◌+◌, ◌≤◌, ◌<◌, nat_abs, length};
+ghost use Rattle.std.specs.Prelude.{◌≡◌, [], ◌∷◌, ◌+◌, ◌≤◌, ◌<◌, length};
 ghost use Rattle.decimal_text.specs.Decimal.{decimal, signed_decimal};
 ghost use Rattle.decimal_text.specs.Steps.Wrote.{Wrote};
 
@@ -19,12 +20,9 @@ pub fn write_word(word: &[u8], from: usize, out: &mut [u8]) -> usize
     requires { from + length word.now ≤ length out.old }
     ensures { Wrote from word.now out.old out.new result }
 {
-    let mut i = 0;
-    while i < word.len() {
-        out[from + i] = word[i];
-        i += 1;
-    }
-    from + i
+    let end = from + word.len();
+    out[from..end].copy_from_slice(word);
+    end
 }
 
 // x in base ten, the last digit behind the others.
@@ -44,7 +42,7 @@ pub fn write_spaced(x: u64, from: usize, out: &mut [u8]) -> usize
     requires { from + length (decimal x) < length out.old }
     ensures { Wrote from (32 ∷ decimal x) out.old out.new result }
 {
-    let at = write_byte(32, from, out);
+    let at = write_byte(b' ', from, out);
     write_number(x, at, out)
 }
 
@@ -52,23 +50,9 @@ pub fn write_spaced(x: u64, from: usize, out: &mut [u8]) -> usize
 fn number_width(x: u64) -> usize
     ensures { result ≡ length (decimal x) }
 {
-    let mut width = 1;
-    let mut rest = x;
-    while rest > 9 {
-        rest = rest / 10;
-        width += 1;
-    }
-    width
-}
-
-// |z|
-fn magnitude(z: i32) -> u64
-    ensures { result ≡ nat_abs z }
-{
-    if z < 0 {
-        (-(z as i64)) as u64
-    } else {
-        z as u64
+    match x.checked_ilog10() {
+        Some(k) => k as usize + 1,
+        None => 1,
     }
 }
 
@@ -76,7 +60,7 @@ fn magnitude(z: i32) -> u64
 pub fn signed_width(z: i32) -> usize
     ensures { result ≡ length (signed_decimal z) }
 {
-    let digits = number_width(magnitude(z));
+    let digits = number_width(z.unsigned_abs() as u64);
     if z < 0 { digits + 1 } else { digits }
 }
 
@@ -86,8 +70,8 @@ pub fn write_signed(z: i32, from: usize, out: &mut [u8]) -> usize
     ensures { Wrote from (signed_decimal z) out.old out.new result }
 {
     if z < 0 {
-        let digits = write_byte(45, from, out);
-        return write_number(magnitude(z), digits, out);
+        let digits = write_byte(b'-', from, out);
+        return write_number(z.unsigned_abs() as u64, digits, out);
     }
-    write_number(magnitude(z), from, out)
+    write_number(z.unsigned_abs() as u64, from, out)
 }

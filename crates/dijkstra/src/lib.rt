@@ -2,27 +2,22 @@
 // its edges lower the labels of their other ends. Each edge is looked at twice, and the frontier as often as there are vertices: O(n² + m).
 #![tactic(auto)]
 
-ghost use Rattle.std.specs.Prelude.{◌≡◌, ◌≤◌, ◌<◌, length};
+ghost use Rattle.std.specs.Prelude.{◌≡◌, ◌≤◌, ◌<◌, true, false, length, MatchOption};
 ghost use Rattle.arithmetic.specs.Table.{at};
-ghost use Rattle.graph.specs.Graph.{graph};
+ghost use Rattle.graph.specs.Graph.{graph_of};
+ghost use Rattle.graph.specs.Checks.{connected};
 ghost use Rattle.dijkstra.specs.Steps.Relaxing.{IsWord, NearestOf, Lowered, CanRelax, Relaxed};
 ghost use Rattle.dijkstra.specs.Steps.Search.{CanSearch, CanSearchLinked, Found};
 
-use forward_star::link_edges;
+use forward_star::ForwardStar;
+use graph::Graph;
 use path_labels::all_reached;
 use vertex_set::{lowest_vertex, without_lowest};
 
-// The label of a vertex that is not reached: more than any shortest path's length.
+// The label of a vertex that is not reached: more than any shortest path's length. It stays a number in place of a None, as labels are only compared.
 const UNREACHED: u32 = 1 << 30;
 
-// Whether every vertex can be reached, and if so, the distances.
-#[derive(Clone, Copy)]
-pub struct Reached {
-    pub all: bool,
-    pub distances: [u32; 64],
-}
-
-// A vertex of the frontier with the least label.
+// A vertex of the frontier with the least label. A loop, as it goes through the word's bits alone, which no slice or range of the library does.
 fn nearest(frontier: u64, labels: &[u32]) -> usize
     requires { IsWord frontier × (frontier ≡ 0 → ⊥) × (64 ≤ length labels.now) }
     ensures { NearestOf frontier (at labels.now) result }
@@ -58,41 +53,31 @@ fn relax(y: usize, near: u32, frontier: u64, labels: &mut [u32]) -> u64
 fn relax_edges(
     x: usize,
     near: u32,
-    a: &[u32],
-    b: &[u32],
-    lengths: &[u32],
-    last: &[u32],
-    before: &[u32],
+    g: &Graph<'_>,
+    star: &ForwardStar,
     frontier: u64,
     labels: &mut [u32],
 ) -> u64
-    requires { CanRelax a.now b.now lengths.now last.now before.now x near frontier labels.old }
-    ensures { Relaxed a.now b.now lengths.now x near frontier labels.old 0 result labels.new }
+    requires { CanRelax g.now.a.now g.now.b.now g.now.lengths.now star.now.last star.now.before x near frontier labels.old }
+    ensures { Relaxed g.now.a.now g.now.b.now g.now.lengths.now x near frontier labels.old 0 result labels.new }
 {
     let mut word = frontier;
-    let mut k = last[x] as usize;
+    let mut k = star.last[x] as usize;
     while k > 0 {
         k -= 1;
         let e = k / 2;
-        let y = a[e] as usize + b[e] as usize - x;
-        word = relax(y, near + lengths[e], word, labels);
-        k = before[k] as usize;
+        let y = g.a[e] as usize + g.b[e] as usize - x;
+        word = relax(y, near + g.lengths[e], word, labels);
+        k = star.before[k] as usize;
     }
     word
 }
 
 // The search, on linked arcs.
-fn search(
-    n: usize,
-    a: &[u32],
-    b: &[u32],
-    lengths: &[u32],
-    start: usize,
-    last: &[u32],
-    before: &[u32],
-) -> Reached
-    requires { CanSearchLinked (graph n a.now b.now lengths.now) start last.now before.now }
-    ensures { Found (graph n a.now b.now lengths.now) start result.all result.distances }
+fn search(g: &Graph<'_>, start: usize, star: &ForwardStar) -> Option<[u32; 64]>
+    requires { CanSearchLinked (graph_of g.now) start star.now.last star.now.before }
+    ensures { MatchOption result (connected (graph_of g.now) ≡ false)
+        (λ table. Found (graph_of g.now) start true table) }
 {
     let mut labels = [UNREACHED; 64];
     labels[start] = 0;
@@ -101,22 +86,17 @@ fn search(
         let x = nearest(frontier, &labels);
         let near = labels[x];
         frontier = frontier - (1u64 << x);
-        frontier = relax_edges(x, near, a, b, lengths, last, before, frontier, &mut labels);
+        frontier = relax_edges(x, near, g, star, frontier, &mut labels);
     }
-    let all = all_reached(n, &labels);
-    Reached {
-        all: all,
-        distances: labels,
-    }
+    all_reached(g.n, &labels).then_some(labels)
 }
 
 // The distances from `start`, if every vertex can be reached.
-pub fn distances_from(n: usize, a: &[u32], b: &[u32], lengths: &[u32], start: usize) -> Reached
-    requires { CanSearch (graph n a.now b.now lengths.now) start }
-    ensures { Found (graph n a.now b.now lengths.now) start result.all result.distances }
+pub fn distances_from(g: &Graph<'_>, start: usize) -> Option<[u32; 64]>
+    requires { CanSearch (graph_of g.now) start }
+    ensures { MatchOption result (connected (graph_of g.now) ≡ false)
+        (λ table. Found (graph_of g.now) start true table) }
 {
-    let mut last = [0u32; 64];
-    let mut before = [0u32; 1024];
-    link_edges(a, b, &mut last, &mut before);
-    search(n, a, b, lengths, start, &last, &before)
+    let star = ForwardStar::link_edges(g.a, g.b);
+    search(g, start, &star)
 }

@@ -36,27 +36,20 @@ fn follows(bytes: &[u8], d: usize, t: usize) -> bool
     requires { d + 8 * t + 8 ≤ length bytes.now }
     ensures { result ≡ eqb t 0 || leb (end_in d bytes.now (t - 1)) (offset_in d bytes.now t) }
 {
-    if t == 0 {
-        return true;
-    }
-    end(bytes, d, t - 1) <= offset(bytes, d, t)
+    t == 0 || end(bytes, d, t - 1) <= offset(bytes, d, t)
 }
 
 // It is in order, and within the bytes.
+#[tactic(auto, unfolding(crate::specs::Directory::pair_ok))]
 fn pair_ok(bytes: &[u8], d: usize, first: usize, t: usize) -> bool
     requires { d + 8 * t + 8 ≤ length bytes.now }
     ensures { result ≡ pair_ok d first bytes.now t }
 {
-    if offset(bytes, d, t) < first {
-        return false;
-    }
-    if !follows(bytes, d, t) {
-        return false;
-    }
-    end(bytes, d, t) <= bytes.len()
+    first <= offset(bytes, d, t) && follows(bytes, d, t) && end(bytes, d, t) <= bytes.len()
 }
 
-// All of the first `count` sections are, none of them starting before place `first`.
+// All of the first `count` sections are, none of them starting before place `first`. A `for`, since each test needs t < count, which a closure
+// would have to require.
 pub fn pairs_ok(bytes: &[u8], d: usize, first: usize, count: usize) -> bool
     requires { d + 8 * count ≤ length bytes.now }
     ensures { result ≡ all count (pair_ok d first bytes.now) }

@@ -1,7 +1,9 @@
 -- Document 02, W-208: "the nearest vertex with a positive amount in a given painting, ties to the lowest number, or 64 if no amount is positive".
-use Rattle.std.specs.Prelude.{ℕ, zero, suc, ◌≤◌, ◌<◌, ◌≡◌, cond, ◌&&◌, ◌||◌, List, [], ◌∷◌, ◌++◌, eqb, ltb, length}
+use Rattle.std.specs.Prelude.{ℕ, Option, Result, unwrap_or, zero, suc, ◌≤◌, ◌<◌, ◌≡◌, cond, ◌&&◌, ◌||◌, List, [], ◌∷◌, ◌++◌, eqb, ltb, length}
 use Rattle.arithmetic.specs.Refusal.{check, refusal}
 use Rattle.arithmetic.specs.Table.{at, result}
+use Rattle.refusals.specs.declared.Refusal.{Refusal}
+use Rattle.refusals.specs.Refusals.{or_zero}
 use Rattle.graph.specs.Graph.{Graph}
 use Rattle.graph.specs.Checks.{graph_checks}
 use Rattle.graph.specs.Distance.{distance}
@@ -20,6 +22,14 @@ nearer d amounts best v = cond (ltb 0 (amounts v) && (eqb best 64 || ltb (d v) (
 unfoldable pub nearest : (d amounts : ℕ → ℕ) → (n : ℕ) → ℕ
 nearest d amounts zero = 64
 nearest d amounts (suc n) = nearer d amounts (nearest d amounts n) n
+
+-- the number of a vertex, 64 for none
+abbrev pub or_64 : Option ℕ → ℕ
+or_64 v = unwrap_or v 64
+
+-- the number that a call returns, 0 after a refusal
+abbrev pub vertex_of : Result (Option ℕ) Refusal → ℕ
+vertex_of = or_zero or_64
 
 -- what the call returns
 pub record FoundNearest (g : Graph) (start : ℕ) (amounts : List ℕ) (k vertex : ℕ) : Type 0 where

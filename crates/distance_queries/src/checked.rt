@@ -1,17 +1,14 @@
 // Checks 1 to 5, and the distances from a vertex: one search gives both.
-ghost use Rattle.std.specs.Prelude.{◌<◌};
-ghost use Rattle.graph.specs.Graph.{graph};
-ghost use Rattle.distance_queries.specs.Steps.Checked.{SearchesFrom, CheckedFrom};
+ghost use Rattle.std.specs.Prelude.{◌≡◌, ◌<◌, IfOk};
+ghost use Rattle.arithmetic.specs.Refusal.{refusal};
+ghost use Rattle.refusals.specs.Refusals.{number_of};
+ghost use Rattle.graph.specs.Graph.{graph_of};
+ghost use Rattle.graph.specs.Checks.{graph_checks};
+ghost use Rattle.distance_queries.specs.Steps.Checked.{SearchesFrom, DistancesFrom};
 
 use dijkstra::distances_from;
-use graph::edges;
-
-// The number of checks 1 to 5, and where it is 0, the distances from the start, if that is a vertex.
-#[derive(Clone, Copy)]
-pub struct Checked {
-    pub refusal: u32,
-    pub distances: [u32; 64],
-}
+use graph::Graph;
+use refusals::Refusal;
 
 // Where the search begins: at the start, or at vertex 0 if that is no vertex.
 fn search_start(n: usize, start: usize) -> usize
@@ -21,48 +18,18 @@ fn search_start(n: usize, start: usize) -> usize
     if start < n { start } else { 0 }
 }
 
-// Checks 1 to 5; `tables` says whether the caller's own tables pass check 2.
-pub fn checked_distances(
-    n: usize,
-    a: &[u32],
-    b: &[u32],
-    lengths: &[u32],
-    tables: bool,
-    start: usize,
-) -> Checked
-    ensures { CheckedFrom (graph n a.now b.now lengths.now) tables start result.refusal result.distances }
+// Checks 1 to 5, and the distances from the start, if that is a vertex; `tables` says whether the caller's own tables pass check 2.
+pub fn checked_distances(g: &Graph<'_>, tables: bool, start: usize) -> Result<[u32; 64], Refusal>
+    ensures number { number_of result ≡ refusal (graph_checks (graph_of g.now) tables) }
+    ensures table { IfOk result (DistancesFrom (graph_of g.now) start) }
 {
-    let none = [0u32; 64];
-    let first = edges::sizes_refusal(n, a, b, lengths, tables);
-    if first != 0 {
-        return Checked {
-            refusal: first,
-            distances: none,
-        };
+    g.check_sizes(tables)?;
+    if !g.edges_fit() {
+        return Err(Refusal::Edges);
     }
-    if !edges::edges_fit(n, a, b) {
-        return Checked {
-            refusal: 3,
-            distances: none,
-        };
+    if !g.lengths_fit() {
+        return Err(Refusal::Lengths);
     }
-    if !edges::lengths_fit(a.len(), lengths) {
-        return Checked {
-            refusal: 4,
-            distances: none,
-        };
-    }
-    let from = search_start(n, start);
-    let found = distances_from(n, a, b, lengths, from);
-    if !found.all {
-        return Checked {
-            refusal: 5,
-            distances: none,
-        };
-    }
-    let distances = found.distances;
-    Checked {
-        refusal: 0,
-        distances: distances,
-    }
+    let from = search_start(g.n, start);
+    distances_from(g, from).ok_or(Refusal::Unconnected)
 }

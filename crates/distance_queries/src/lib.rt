@@ -5,5 +5,5 @@ pub mod checked;
 pub mod nearest;
 pub mod within;
 
-pub use nearest::{Nearest, nearest_vertex};
-pub use within::{Within, vertices_within};
+pub use nearest::nearest_vertex;
+pub use within::vertices_within;

@@ -1,61 +1,20 @@
 // The vertices within reach of a start.
-ghost use Rattle.std.specs.Prelude.{◌≡◌, ◌≤◌, leb, length};
-ghost use Rattle.arithmetic.specs.Mask.{mask};
-ghost use Rattle.arithmetic.specs.Table.{at};
-ghost use Rattle.graph.specs.Graph.{graph};
-ghost use Rattle.distance_queries.specs.Within.{FoundWithin};
+ghost use Rattle.refusals.specs.Refusals.{number_of};
+ghost use Rattle.graph.specs.Graph.{graph_of};
+ghost use Rattle.distance_queries.specs.Within.{FoundWithin, mask_of};
 
 use crate::checked::checked_distances;
-
-#[derive(Clone, Copy)]
-pub struct Within {
-    pub refusal: u32,
-    pub mask: u64,
-}
-
-// The word of those of n vertices whose distance is at most `reach`.
-fn word_within(n: usize, distances: &[u32], reach: u32) -> u64
-    requires { (n ≤ 64) × (n ≤ length distances.now) }
-    ensures { result ≡ mask n (λ v. leb (at distances.now v) reach) }
-{
-    let mut word = 0u64;
-    for v in 0..n {
-        if distances[v] <= reach {
-            word = word | (1u64 << v);
-        }
-    }
-    word
-}
+use graph::Graph;
+use refusals::Refusal;
+use vertex_set::word_of;
 
 // The word of all vertices whose distance from `start` is at most `reach`.
-pub fn vertices_within(
-    n: usize,
-    a: &[u32],
-    b: &[u32],
-    lengths: &[u32],
-    start: usize,
-    reach: u32,
-) -> Within
-    ensures { FoundWithin (graph n a.now b.now lengths.now) start reach result.refusal result.mask }
+pub fn vertices_within(g: &Graph<'_>, start: usize, reach: u32) -> Result<u64, Refusal>
+    ensures { FoundWithin (graph_of g.now) start reach (number_of result) (mask_of result) }
 {
-    let checked = checked_distances(n, a, b, lengths, true, start);
-    let refusal = checked.refusal;
-    if refusal != 0 {
-        return Within {
-            refusal: refusal,
-            mask: 0,
-        };
+    let distances = checked_distances(g, true, start)?;
+    if start >= g.n {
+        return Err(Refusal::Start);
     }
-    if start >= n {
-        return Within {
-            refusal: 17,
-            mask: 0,
-        };
-    }
-    let distances = checked.distances;
-    let word = word_within(n, &distances, reach);
-    Within {
-        refusal: 0,
-        mask: word,
-    }
+    Ok(word_of(g.n, |v| distances[v] <= reach))
 }

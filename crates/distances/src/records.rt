@@ -1,11 +1,15 @@
 // The distance call over a lent list of edge records.
-ghost use Rattle.std.specs.Prelude.{◌≡◌, ◌≤◌, min, length};
+ghost use Rattle.std.specs.Prelude.{◌≡◌, ◌≤◌, length};
+ghost use Rattle.refusals.specs.Refusals.{number_of};
 ghost use Rattle.distances.specs.Distances.{distances_refusal, distances_table};
 ghost use Rattle.distances.specs.Records.{graph_of_records};
-ghost use Rattle.distances.specs.Steps.Records.{columns_of, Full, OfColumns};
+ghost use Rattle.distances.specs.Steps.Records.{columns_of};
 
-use graph::edges;
+use graph::Graph;
+use graph::edges::vertices_fit;
+use refusals::Refusal;
 
+// An edge as C lays it out: hosts lend lists of them.
 #[repr(C)]
 #[derive(Clone, Copy)]
 pub struct EdgeRecord {
@@ -14,7 +18,7 @@ pub struct EdgeRecord {
     pub length: u32,
 }
 
-// The fields of up to 512 edges, each in a table of its own.
+// The fields of up to 512 edges, each in a table of its own: a graph is lent as three lists, and the library has no heap for them.
 #[derive(Drop)]
 struct Columns {
     a: [u32; 512],
@@ -22,59 +26,40 @@ struct Columns {
     lengths: [u32; 512],
 }
 
-fn few(m: usize) -> usize
-    ensures { result ≡ min m 512 }
-{
-    if m < 512 { m } else { 512 }
-}
-
-// The first m edges, field by field.
-fn take_apart(edges: &[EdgeRecord], m: usize) -> Columns
-    requires { (m ≤ length edges.now) × (m ≤ 512) }
-    ensures { result ≡ columns_of edges.now m }
+// The edges, field by field.
+fn take_apart(edges: &[EdgeRecord]) -> Columns
+    requires { length edges.now ≤ 512 }
+    ensures { result ≡ columns_of edges.now (length edges.now) }
 {
     let mut a = [0u32; 512];
     let mut b = [0u32; 512];
     let mut lengths = [0u32; 512];
-    let mut i: usize = 0;
-    while i < m {
-        let e = edges[i];
+    for (i, e) in edges.iter().enumerate() {
         a[i] = e.a;
         b[i] = e.b;
         lengths[i] = e.length;
-        i += 1;
     }
-    Columns {
-        a: a,
-        b: b,
-        lengths: lengths,
-    }
-}
-
-// The distance call on the first m places of three tables; more than 512 edges are refused.
-fn distances_of_columns(n: usize, m: usize, c: Columns, out: &mut [u32]) -> u32
-    requires { Full c }
-    ensures { OfColumns n m c out.old result out.new }
-{
-    if m > 512 {
-        if edges::vertices_fit(n) {
-            return 2;
-        }
-        return 1;
-    }
-    let a = c.a;
-    let b = c.b;
-    let lengths = c.lengths;
-    crate::distances(n, &a[..m], &b[..m], &lengths[..m], out)
+    Columns { a, b, lengths }
 }
 
 // The answers and refusals of `distances` on the three lists of the records' fields.
-pub fn distances_of_records(n: usize, edges: &[EdgeRecord], out: &mut [u32]) -> u32
-    ensures { (result ≡ distances_refusal (graph_of_records n edges.now) out.old)
+pub fn distances_of_records(n: usize, edges: &[EdgeRecord], out: &mut [u32]) -> Result<(), Refusal>
+    ensures { (number_of result ≡ distances_refusal (graph_of_records n edges.now) out.old)
         × (out.new ≡ distances_table (graph_of_records n edges.now) out.old) }
 {
     let m = edges.len();
-    let k = few(m);
-    let c = take_apart(edges, k);
-    distances_of_columns(n, m, c, out)
+    if m > 512 {
+        if vertices_fit(n) {
+            return Err(Refusal::Tables);
+        }
+        return Err(Refusal::Vertices);
+    }
+    let c = take_apart(edges);
+    let g = Graph {
+        n,
+        a: &c.a[..m],
+        b: &c.b[..m],
+        lengths: &c.lengths[..m],
+    };
+    crate::distances(&g, out)
 }

@@ -6,21 +6,21 @@ ghost use Rattle.arithmetic.specs.Table.{at};
 ghost use Rattle.rooted_tree.specs.Steps.Subtotal.{subtotal};
 ghost use Rattle.graph.specs.Graph.{graph};
 ghost use Rattle.arithmetic.specs.Steps.Fill.{Filled};
-ghost use Rattle.tree_pivot.specs.Steps.Basis.{Basis, Places, tables};
+ghost use Rattle.tree_pivot.specs.Steps.Basis.{IsBasis, tables_of};
 ghost use Rattle.first_basis.specs.Steps.Perturbed.{supply_of, demand_of, perturbed};
 ghost use Rattle.first_basis.specs.Steps.FirstBasis.{CanMeasure, LengthsAbove, CanPerturb, CanWeigh, CanStart, StartInput, subtree_mask};
 
 mod potential;
+
+use tree_pivot::{Basis, Subtrees};
 
 // The length of the edge above each vertex.
 fn lengths_above(n: usize, lengths: &[u32], edge: &[u32; 64], out: &mut [u32; 64])
     requires { CanMeasure n lengths.now edge.now out.old }
     ensures { LengthsAbove lengths.now edge.now out.old out.new n }
 {
-    let mut x = 1;
-    while x < n {
+    for x in 1..n {
         out[x] = lengths[edge[x] as usize];
-        x += 1;
     }
 }
 
@@ -41,27 +41,17 @@ fn perturb(n: usize, first: u64, rest: u64, masses: &[u64], out: &mut [u64; 64])
     requires { CanPerturb n first rest masses.now out.old }
     ensures { Filled n (perturbed first rest (at masses.now)) out.old out.new }
 {
-    let mut y = 0;
-    while y < n {
+    for y in 0..n {
         out[y] = perturbed(first, rest, y, masses[y]);
-        y += 1;
     }
 }
 
 // The perturbed masses below each vertex, and the masks of the subtrees.
-fn tables_below(
-    n: usize,
-    parents: &[u32; 64],
-    mu: &[u64],
-    nu: &[u64],
-    supply: &mut [u64; 64],
-    demand: &mut [u64; 64],
-    masks: &mut [u64; 64],
-)
-    requires { CanWeigh n parents.now mu.now nu.now supply.old demand.old masks.old }
-    ensures first { Filled n (subtotal (at parents.now) n (supply_of (at mu.now))) supply.old supply.new }
-    ensures second { Filled n (subtotal (at parents.now) n (demand_of n (at nu.now))) demand.old demand.new }
-    ensures bits { Filled n (subtree_mask n (at parents.now)) masks.old masks.new }
+fn fill_subtrees(n: usize, parents: &[u32; 64], mu: &[u64], nu: &[u64], subtrees: &mut Subtrees)
+    requires { CanWeigh n parents.now mu.now nu.now subtrees.old.supply subtrees.old.demand subtrees.old.masks }
+    ensures first { Filled n (subtotal (at parents.now) n (supply_of (at mu.now))) subtrees.old.supply subtrees.new.supply }
+    ensures second { Filled n (subtotal (at parents.now) n (demand_of n (at nu.now))) subtrees.old.demand subtrees.new.demand }
+    ensures bits { Filled n (subtree_mask n (at parents.now)) subtrees.old.masks subtrees.new.masks }
 {
     let mut sent = [0u64; 64];
     let mut taken = [0u64; 64];
@@ -69,7 +59,15 @@ fn tables_below(
     perturb(n, 0, 1, mu, &mut sent);
     perturb(n, n as u64 - 1, 0, nu, &mut taken);
     subtree_sums::subtree_tables(
-        n, 0, parents, &sent, &taken, &mut depth, masks, supply, demand,
+        n,
+        0,
+        parents,
+        &sent,
+        &taken,
+        &mut depth,
+        &mut subtrees.masks,
+        &mut subtrees.supply,
+        &mut subtrees.demand,
     );
 }
 
@@ -81,20 +79,30 @@ pub fn tree_basis(
     nu: &[u64],
     parents: &[u32; 64],
     edge: &[u32; 64],
-    above: &mut [u32; 64],
-    supply: &mut [u64; 64],
-    demand: &mut [u64; 64],
-    masks: &mut [u64; 64],
-    potential: &mut [u32; 64],
-)
-    requires { StartInput n lengths.now mu.now nu.now parents.now edge.now
-        × Places (tables parents.now above.old supply.old demand.old masks.old potential.old) }
+) -> Basis
+    requires { StartInput n lengths.now mu.now nu.now parents.now edge.now }
     ensures { (a b : List ℕ)
         → CanStart (graph n a b lengths.now) mu.now nu.now parents.now edge.now
-        → Basis (graph n a b lengths.now) (supply_of (at mu.now)) (demand_of n (at nu.now))
-        (tables parents.now above.new supply.new demand.new masks.new potential.new) }
+        → IsBasis (graph n a b lengths.now) (supply_of (at mu.now)) (demand_of n (at nu.now)) (tables_of result) }
 {
-    lengths_above(n, lengths, edge, above);
-    tables_below(n, parents, mu, nu, supply, demand, masks);
-    potential::potential(n, parents, above, supply, demand, potential);
+    let mut basis = Basis {
+        parents: *parents,
+        above: [0; 64],
+        subtrees: Subtrees {
+            supply: [0; 64],
+            demand: [0; 64],
+            masks: [0; 64],
+        },
+        potential: [0; 64],
+    };
+    lengths_above(n, lengths, edge, &mut basis.above);
+    fill_subtrees(n, parents, mu, nu, &mut basis.subtrees);
+    potential::potential(
+        n,
+        parents,
+        &basis.above,
+        &basis.subtrees,
+        &mut basis.potential,
+    );
+    basis
 }

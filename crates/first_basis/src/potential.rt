@@ -3,6 +3,8 @@ ghost use Rattle.std.specs.Prelude.{◌≡◌, ◌<◌, length};
 ghost use Rattle.arithmetic.specs.Steps.Fill.{Filled};
 ghost use Rattle.first_basis.specs.Steps.TreePotential.{HasPotential, potential_at};
 
+use tree_pivot::Subtrees;
+
 // The potential of the root.
 const OFFSET: u32 = 1 << 23;
 
@@ -11,17 +13,16 @@ fn potential_of(
     n: usize,
     parents: &[u32; 64],
     above: &[u32; 64],
-    supply: &[u64; 64],
-    demand: &[u64; 64],
+    subtrees: &Subtrees,
     y: usize,
 ) -> u32
-    requires { HasPotential n parents.now above.now supply.now demand.now × (y < n) }
-    ensures { result ≡ potential_at n parents.now above.now supply.now demand.now y }
+    requires { HasPotential n parents.now above.now subtrees.now.supply subtrees.now.demand × (y < n) }
+    ensures { result ≡ potential_at n parents.now above.now subtrees.now.supply subtrees.now.demand y }
 {
     let mut u = OFFSET;
     let mut x = y;
     while x != 0 {
-        if demand[x] < supply[x] {
+        if subtrees.demand[x] < subtrees.supply[x] {
             u += above[x];
         } else {
             u -= above[x];
@@ -36,16 +37,13 @@ pub fn potential(
     n: usize,
     parents: &[u32; 64],
     above: &[u32; 64],
-    supply: &[u64; 64],
-    demand: &[u64; 64],
+    subtrees: &Subtrees,
     out: &mut [u32; 64],
 )
-    requires { HasPotential n parents.now above.now supply.now demand.now × (length out.old ≡ 64) }
-    ensures { Filled n (potential_at n parents.now above.now supply.now demand.now) out.old out.new }
+    requires { HasPotential n parents.now above.now subtrees.now.supply subtrees.now.demand × (length out.old ≡ 64) }
+    ensures { Filled n (potential_at n parents.now above.now subtrees.now.supply subtrees.now.demand) out.old out.new }
 {
-    let mut y = 0;
-    while y < n {
-        out[y] = potential_of(n, parents, above, supply, demand, y);
-        y += 1;
+    for y in 0..n {
+        out[y] = potential_of(n, parents, above, subtrees, y);
     }
 }

@@ -4,18 +4,19 @@
 ghost use Rattle.std.specs.Prelude.{◌≡◌, true, cond, ◌+◌, ◌*◌, ◌≤◌, ◌<◌, min, eqb, length, set};
 ghost use Rattle.arithmetic.specs.Steps.Table.{cell};
 ghost use Rattle.arithmetic.specs.Steps.Matrix.{filled};
-ghost use Rattle.graph.specs.Graph.{graph, joined, edge_length};
+ghost use Rattle.graph.specs.Graph.{joined, edge_length, graph_of};
 ghost use Rattle.graph.specs.Checks.{vertices_ok, lists_ok, edges_ok, lengths_ok};
 ghost use Rattle.graph.specs.Distance.{via, distance};
 ghost use Rattle.floyd_warshall.specs.Steps.FloydWarshall.{Bounded, shorter};
 
-use numbers::smaller;
+use graph::Graph;
 use tables::fill_table;
 
-// Stands for "no path": more than any shortest path's length.
+// Stands for "no path": more than any shortest path's length. It stays a number in place of a None: the table is the caller's, and the definition `via` has it.
 const FAR: u32 = 429_496_700;
 
 // Stores v in row i, column j.
+#[tactic(auto, using(arithmetic::proofs::Laws::Table::cell_below))]
 fn put(n: usize, i: usize, j: usize, v: u32, out: &mut [u32])
     requires { (i < n) × (j < n) × (n * n ≤ length out.old) }
     ensures { out.new ≡ set out.old (i * n + j) v }
@@ -24,22 +25,20 @@ fn put(n: usize, i: usize, j: usize, v: u32, out: &mut [u32])
 }
 
 // The edges, both ways.
-fn put_edges(n: usize, a: &[u32], b: &[u32], lengths: &[u32], out: &mut [u32])
-    requires { (lists_ok (graph n a.now b.now lengths.now) ≡ true)
-        × (edges_ok (graph n a.now b.now lengths.now) ≡ true) × (n * n ≤ length out.old) }
-    ensures { out.new ≡ filled n
-        (λ i j. cond (joined (graph n a.now b.now lengths.now) i j)
-        (edge_length (graph n a.now b.now lengths.now) i j) (cell n out.old i j))
+fn put_edges(g: &Graph<'_>, out: &mut [u32])
+    requires { (lists_ok (graph_of g.now) ≡ true)
+        × (edges_ok (graph_of g.now) ≡ true) × (g.now.n * g.now.n ≤ length out.old) }
+    ensures { out.new ≡ filled g.now.n
+        (λ i j. cond (joined (graph_of g.now) i j)
+        (edge_length (graph_of g.now) i j) (cell g.now.n out.old i j))
         out.old }
 {
-    let mut e = 0;
-    while e < a.len() {
-        let x = a[e] as usize;
-        let y = b[e] as usize;
-        let s = lengths[e];
-        put(n, x, y, s, out);
-        put(n, y, x, s, out);
-        e += 1;
+    for e in 0..g.a.len() {
+        let x = g.a[e] as usize;
+        let y = g.b[e] as usize;
+        let s = g.lengths[e];
+        put(g.n, x, y, s, out);
+        put(g.n, y, x, s, out);
     }
 }
 
@@ -54,15 +53,15 @@ fn zero_diagonal(n: usize, out: &mut [u32])
 }
 
 // The paths of at most one edge.
-fn start(n: usize, a: &[u32], b: &[u32], lengths: &[u32], out: &mut [u32])
-    requires { (lists_ok (graph n a.now b.now lengths.now) ≡ true)
-        × (edges_ok (graph n a.now b.now lengths.now) ≡ true) × (n * n ≤ length out.old) }
+fn start(g: &Graph<'_>, out: &mut [u32])
+    requires { (lists_ok (graph_of g.now) ≡ true)
+        × (edges_ok (graph_of g.now) ≡ true) × (g.now.n * g.now.n ≤ length out.old) }
     ensures { out.new
-        ≡ filled n (via (graph n a.now b.now lengths.now) 0) out.old }
+        ≡ filled g.now.n (via (graph_of g.now) 0) out.old }
 {
-    fill_table(n, FAR, out);
-    put_edges(n, a, b, lengths, out);
-    zero_diagonal(n, out);
+    fill_table(g.n, FAR, out);
+    put_edges(g, out);
+    zero_diagonal(g.n, out);
 }
 
 // Row i of phase k.
@@ -77,7 +76,7 @@ fn relax_row(n: usize, k: usize, i: usize, out: &mut [u32])
     for j in 0..n {
         let p = row + j;
         let second = out[by + j];
-        out[p] = smaller(out[p], first + second);
+        out[p] = out[p].min(first + second);
     }
 }
 
@@ -92,15 +91,15 @@ fn phase(n: usize, k: usize, out: &mut [u32])
 }
 
 // Fills the first n × n places with the distances, row i from place i × n, and leaves the rest.
-pub fn fill_distances(n: usize, a: &[u32], b: &[u32], lengths: &[u32], out: &mut [u32])
-    requires { (vertices_ok n ≡ true) × (lists_ok (graph n a.now b.now lengths.now) ≡ true)
-        × (edges_ok (graph n a.now b.now lengths.now) ≡ true) × (lengths_ok (graph n a.now b.now lengths.now) ≡ true)
-        × (n * n ≤ length out.old) }
+pub fn fill_distances(g: &Graph<'_>, out: &mut [u32])
+    requires { (vertices_ok g.now.n ≡ true) × (lists_ok (graph_of g.now) ≡ true)
+        × (edges_ok (graph_of g.now) ≡ true) × (lengths_ok (graph_of g.now) ≡ true)
+        × (g.now.n * g.now.n ≤ length out.old) }
     ensures { out.new
-        ≡ filled n (distance (graph n a.now b.now lengths.now)) out.old }
+        ≡ filled g.now.n (distance (graph_of g.now)) out.old }
 {
-    start(n, a, b, lengths, out);
-    for k in 0..n {
-        phase(n, k, out);
+    start(g, out);
+    for k in 0..g.n {
+        phase(g.n, k, out);
     }
 }

@@ -3,6 +3,7 @@ use Rattle.std.specs.Prelude.{ℕ, Bool, ◌&&◌, ◌||◌, List, length, eqb}
 use Rattle.arithmetic.specs.Bools.{any}
 use Rattle.arithmetic.specs.Sum.{sum, pick}
 use Rattle.arithmetic.specs.Table.{at}
+use Rattle.graph.specs.declared.edges.Graph as lent
 
 -- document 01's patch: n vertices, 0 to n - 1, and its edges in three lists. Edge e has the lower end `at lower e`, the upper end
 -- `at upper e` and the length `at lengths e`
@@ -14,6 +15,10 @@ pub record Graph : Type 0 where
 
 abbrev pub graph : ℕ → List ℕ → List ℕ → List ℕ → Graph
 graph n a b l = record { n = n; lower = a; upper = b; lengths = l }
+
+-- the graph in the lists that a caller lends
+abbrev pub graph_of : lent.Graph → Graph
+graph_of g = graph g.n g.a.now g.b.now g.lengths.now
 
 -- m, the number of edges
 abbrev pub edges : Graph → ℕ

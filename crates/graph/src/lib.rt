@@ -2,3 +2,5 @@
 #![tactic(auto)]
 
 pub mod edges;
+
+pub use edges::Graph;

@@ -11,5 +11,5 @@ pub extern "C" fn mover_distances_of_records(n: usize, edges: &[EdgeRecord], out
     ensures { (result ≡ distances_refusal (graph_of_records n edges.now) out.old)
         × (out.new ≡ distances_table (graph_of_records n edges.now) out.old) }
 {
-    distances::records::distances_of_records(n, edges, out)
+    crate::number_of(distances::records::distances_of_records(n, edges, out))
 }

@@ -16,10 +16,20 @@ pub extern "C" fn mover_report(
     ensures reported { Reported reel.now (leb 24 (length tally.old)) result accepted.new sum.new greatest.new first.new }
     ensures tally { tally.new ≡ written result (tab 24 (images_with reel.now)) tally.old }
 {
-    let totals = sequence_report::report_into(reel, tally);
-    *accepted = totals.accepted;
-    *sum = totals.sum;
-    *greatest = totals.greatest;
-    *first = totals.first;
-    totals.refusal
+    match sequence_report::report_into(reel, tally) {
+        Ok(totals) => {
+            *accepted = totals.accepted;
+            *sum = totals.sum;
+            *greatest = totals.greatest;
+            *first = totals.first;
+            0
+        }
+        Err(refusal) => {
+            *accepted = 0;
+            *sum = 0;
+            *greatest = 0;
+            *first = 0;
+            refusal.number()
+        }
+    }
 }

@@ -7,7 +7,7 @@ ghost use Rattle.little_endian.specs.LittleEndian.{byte_of, fields, signed};
 ghost use Rattle.little_endian.specs.Steps.Buffer.{placed};
 ghost use Rattle.host_record.specs.Record.{record_bytes, record_size};
 
-use little_endian::write::{bits_of, put_byte, put_bytes, put_long, put_word};
+use little_endian::write::{bits_of, put, put_numbers};
 use spanning_tree::tree::Tree;
 
 // Cost, moves and root.
@@ -16,29 +16,19 @@ fn write_figures(cost: u64, moves: u32, root: u32, out: &mut [u8])
     ensures { out.new
         ≡ placed 0 (tab 8 (byte_of cost) ++ tab 4 (byte_of moves) ++ tab 1 (byte_of root)) out.old }
 {
-    put_long(0, cost, out);
-    put_word(8, moves, out);
-    put_byte(12, root, out);
+    put::<8>(0, cost, out);
+    put::<4>(8, moves as u64, out);
+    put::<1>(12, root as u64, out);
 }
 
-// The section of the potential.
+// The section of the potential. Apart from `put_numbers`, whose numbers have no sign.
 fn write_potential(n: usize, potential: &[i32], out: &mut [u8])
     requires { (n ≤ length potential.now) × (4 * n ≤ length out.old) }
     ensures { out.new
         ≡ written 0 (fields 4 n (λ y. signed (get_or potential.now y (pos 0)))) out.old }
 {
     for i in 0..n {
-        put_word(4 * i, bits_of(potential[i]), out);
-    }
-}
-
-// The section of the plan, which has m entries.
-fn write_plan(m: usize, plan: &[u32], out: &mut [u8])
-    requires { (m ≤ length plan.now) × (4 * m ≤ length out.old) }
-    ensures { out.new ≡ written 0 (fields 4 m (at plan.now)) out.old }
-{
-    for i in 0..m {
-        put_word(4 * i, plan[i], out);
+        put::<4>(4 * i, bits_of(potential[i]) as u64, out);
     }
 }
 
@@ -60,9 +50,9 @@ pub fn write_record(
     let n = tree.n;
     let parents = tree.parents;
     write_figures(cost, moves, tree.root as u32, out);
-    put_bytes(n, &parents, &mut out[13..]);
+    put_numbers::<1>(n, &parents, &mut out[13..]);
     let second = 13 + n;
     write_potential(n, potential, &mut out[second..]);
     let third = 13 + 5 * n;
-    write_plan(n * n, plan, &mut out[third..]);
+    put_numbers::<4>(n * n, plan, &mut out[third..]);
 }

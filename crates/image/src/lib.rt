@@ -3,13 +3,15 @@
 
 ghost use Rattle.std.specs.Prelude.{◌≡◌, ◌&&◌, ◌≤◌, ◌<◌, length, leb};
 ghost use Rattle.arithmetic.specs.Refusal.{refusal};
+ghost use Rattle.refusals.specs.Refusals.{number_of};
 ghost use Rattle.graph.specs.Checks.{vertices_ok};
 ghost use Rattle.image.specs.Image.{vertex_count, edge_count, first_offset, section_count, size_ok, sections_ok, layout_ok, offset as offset_of, extent as extent_of};
-ghost use Rattle.image.specs.ImageChecks.{image_checks, room_in};
+ghost use Rattle.image.specs.ImageChecks.{image_checks};
 
 use directory::pairs_ok;
 use graph::edges::vertices_fit;
 use little_endian::read::{get, get_two};
+use refusals::Refusal;
 
 // Where the pairs of offset and length of the sections stand.
 const PAIRS: usize = 4;
@@ -56,6 +58,7 @@ pub fn extent(image: &[u8], t: usize) -> usize
 }
 
 // Check 11.
+#[tactic(auto, unfolding(crate::specs::Image::size_ok))]
 fn size_ok(image: &[u8]) -> bool
     ensures { result ≡ size_ok image.now }
 {
@@ -71,28 +74,18 @@ fn sections_ok(image: &[u8]) -> bool
 }
 
 // Check 13.
+#[tactic(auto, unfolding(crate::specs::Image::layout_ok))]
 fn layout_ok(image: &[u8]) -> bool
     requires { first_offset image.now ≤ length image.now }
     ensures { result ≡ layout_ok image.now }
 {
     let n = vertex_count(image);
-    if get(image, 1) != 0 {
-        return false;
-    }
-    if extent(image, 0) != 4 * edge_count(image) {
-        return false;
-    }
-    if extent(image, 1) != 4 * n {
-        return false;
-    }
-    if extent(image, 2) != 4 * n {
-        return false;
-    }
     let tree = extent(image, TREE);
-    if tree == 0 {
-        return true;
-    }
-    tree == n + 1
+    get(image, 1) == 0
+        && extent(image, 0) == 4 * edge_count(image)
+        && extent(image, 1) == 4 * n
+        && extent(image, 2) == 4 * n
+        && (tree == 0 || tree == n + 1)
 }
 
 // Check 1.
@@ -103,70 +96,36 @@ fn vertices_ok(image: &[u8]) -> bool
     vertices_fit(vertex_count(image))
 }
 
-// Tables of these three lengths have room for n numbers each.
-fn room(n: usize, x: usize, y: usize, z: usize) -> bool
-    ensures { result ≡ room_in n x y z }
-{
-    if n > x {
-        return false;
-    }
-    if n > y {
-        return false;
-    }
-    n <= z
-}
-
-// Check 2: few enough edges, and room for all that is read. a to parents are the lengths of the tables for it.
-fn tables_ok(
-    image: &[u8],
-    a: usize,
-    b: usize,
-    lengths: usize,
-    mu: usize,
-    nu: usize,
-    parents: usize,
-) -> bool
+// Check 2: few enough edges, and room for all that is read.
+fn tables_ok(image: &[u8], edges: usize, vertices: usize) -> bool
     requires { first_offset image.now ≤ length image.now }
     ensures { result ≡ leb (edge_count image.now) 512
-        && (room_in (edge_count image.now) a b lengths && room_in (vertex_count image.now) mu nu parents) }
+        && (leb (edge_count image.now) edges && leb (vertex_count image.now) vertices) }
 {
     let m = edge_count(image);
-    if m > 512 {
-        return false;
-    }
-    if !room(m, a, b, lengths) {
-        return false;
-    }
-    room(vertex_count(image), mu, nu, parents)
+    m <= 512 && m <= edges && vertex_count(image) <= vertices
 }
 
-// The number of the first of checks 11, 12, 13, 1 and 2 that fails, or 0, for tables of these lengths.
-pub fn read_refusal(
-    image: &[u8],
-    a: usize,
-    b: usize,
-    lengths: usize,
-    mu: usize,
-    nu: usize,
-    parents: usize,
-) -> u32
-    ensures { result ≡ refusal (image_checks image.now
-        (room_in (edge_count image.now) a b lengths && room_in (vertex_count image.now) mu nu parents)) }
+// Checks 11, 12, 13, 1 and 2 in their order; the tables for what is read have room for so many edges and vertices.
+#[tactic(auto, using(crate::proofs::Laws::ImageCheck::sized), unfolding(crate::specs::ImageChecks::image_checks, arithmetic::specs::Refusal::refusal))]
+pub fn check(image: &[u8], edges: usize, vertices: usize) -> Result<(), Refusal>
+    ensures { number_of result ≡ refusal (image_checks image.now
+        (leb (edge_count image.now) edges && leb (vertex_count image.now) vertices)) }
 {
     if !size_ok(image) {
-        return 11;
+        return Err(Refusal::ImageSize);
     }
     if !sections_ok(image) {
-        return 12;
+        return Err(Refusal::Sections);
     }
     if !layout_ok(image) {
-        return 13;
+        return Err(Refusal::Layout);
     }
     if !vertices_ok(image) {
-        return 1;
+        return Err(Refusal::Vertices);
     }
-    if !tables_ok(image, a, b, lengths, mu, nu, parents) {
-        return 2;
+    if !tables_ok(image, edges, vertices) {
+        return Err(Refusal::Tables);
     }
-    0
+    Ok(())
 }

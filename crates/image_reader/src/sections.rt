@@ -3,10 +3,11 @@ ghost use Rattle.std.specs.Prelude.{◌≡◌, cond, [], ◌+◌, ◌*◌, ◌�
 ghost use Rattle.arithmetic.specs.Sum.{pick};
 ghost use Rattle.arithmetic.specs.Table.{tab, written};
 ghost use Rattle.image.specs.Image.{vertex_count, edge_count, first_offset, section_count, offset as offset_of, lower_end, upper_end, edge_length_of, amount, has_tree, root_in, parent_in};
+ghost use Rattle.image_reader.specs.Reading.{root_number, tree_mark};
 ghost use Rattle.image_reader.specs.Steps.Held.{Held};
 
 use image::{TREE, edge_count, extent, offset, vertex_count};
-use little_endian::read::{fill_bytes, fill_fours, fill_twos, get};
+use little_endian::read::{get, get_four, get_two};
 
 // The edges: lower ends, upper ends and lengths.
 pub fn fill_edges(image: &[u8], a: &mut [u32], b: &mut [u32], lengths: &mut [u32])
@@ -18,11 +19,13 @@ pub fn fill_edges(image: &[u8], a: &mut [u32], b: &mut [u32], lengths: &mut [u32
     ensures lengths_after { lengths.new
         ≡ written 0 (tab (edge_count image.now) (edge_length_of image.now)) lengths.old }
 {
-    let m = edge_count(image);
     let from = offset(image, 0);
-    fill_bytes(image, from, 4, m, a);
-    fill_bytes(image, from + 1, 4, m, b);
-    fill_twos(image, from + 2, m, lengths);
+    for e in 0..edge_count(image) {
+        let entry = from + 4 * e;
+        a[e] = get(image, entry);
+        b[e] = get(image, entry + 1);
+        lengths[e] = get_two(image, entry + 2);
+    }
 }
 
 // The amounts of painting t.
@@ -32,7 +35,10 @@ pub fn fill_amounts(image: &[u8], t: usize, out: &mut [u64])
     ensures { out.new
         ≡ written 0 (tab (vertex_count image.now) (amount image.now t)) out.old }
 {
-    fill_fours(image, offset(image, t + 1), vertex_count(image), out);
+    let from = offset(image, t + 1);
+    for x in 0..vertex_count(image) {
+        out[x] = get_four(image, from + 4 * x) as u64;
+    }
 }
 
 // The tree's parents, or nothing without a tree.
@@ -44,31 +50,21 @@ pub fn fill_parents(image: &[u8], parents: &mut [u32])
         parents.old }
 {
     if extent(image, TREE) != 0 {
-        fill_bytes(
-            image,
-            offset(image, TREE) + 1,
-            1,
-            vertex_count(image),
-            parents,
-        );
+        let from = offset(image, TREE) + 1;
+        for x in 0..vertex_count(image) {
+            parents[x] = get(image, from + x);
+        }
     }
 }
 
-// The tree's root, or 0.
-pub fn root(image: &[u8]) -> usize
+// The tree's root, if there is a tree.
+pub fn root(image: &[u8]) -> Option<usize>
     requires { Held image.now }
-    ensures { result ≡ pick (has_tree image.now) (root_in image.now) }
+    ensures root_is { root_number result ≡ pick (has_tree image.now) (root_in image.now) }
+    ensures tree_is { tree_mark result ≡ pick (has_tree image.now) 1 }
 {
     if extent(image, TREE) == 0 {
-        return 0;
+        return None;
     }
-    get(image, offset(image, TREE)) as usize
-}
-
-// 1 for a tree, else 0.
-pub fn tree_mark(image: &[u8]) -> u32
-    requires { first_offset image.now ≤ length image.now }
-    ensures { result ≡ pick (has_tree image.now) 1 }
-{
-    if extent(image, TREE) == 0 { 0 } else { 1 }
+    Some(get(image, offset(image, TREE)) as usize)
 }

@@ -19,6 +19,7 @@ pub fn image_count(reel: &[u8]) -> usize
 }
 
 // Check 14.
+#[tactic(auto, unfolding(crate::specs::Sequence::sequence_ok))]
 pub fn sequence_ok(reel: &[u8]) -> bool
     ensures { result ≡ sequence_ok reel.now }
 {

@@ -1,7 +1,9 @@
 -- Document 02, W-203: the writer, its checks and its whole outcome.
-use Rattle.std.specs.Prelude.{ℕ, ◌≡◌, Bool, true, not, ◌&&◌, ◌||◌, List, [], ◌∷◌, ◌++◌, length, eqb, leb}
+use Rattle.std.specs.Prelude.{ℕ, ◌≡◌, Bool, true, not, ◌&&◌, ◌||◌, List, [], ◌∷◌, ◌++◌, length, eqb, leb, Result}
 use Rattle.arithmetic.specs.Refusal.{Check, check, refusal}
 use Rattle.arithmetic.specs.Table.{result, written}
+use Rattle.refusals.specs.declared.Refusal.{Refusal}
+use Rattle.refusals.specs.Refusals.{or_zero}
 use Rattle.graph.specs.Checks.{size_checks}
 use Rattle.image.specs.Contents.{Contents}
 use Rattle.image_sections.specs.Held.{at_most, edges_held, tree_held}
@@ -32,6 +34,10 @@ pub record ImageWritten (c : Contents) (buffer : List ℕ) (k long : ℕ) (buffe
   pub refusal : k ≡ write_refusal c (length buffer)
   pub length_is : long ≡ result k (length (image_bytes c))
   pub buffer_is : buffer' ≡ written k (image_bytes c) buffer
+
+-- the length that a call returns, after a refusal 0
+abbrev pub length_of : Result ℕ Refusal → ℕ
+length_of = or_zero (λ v. v)
 
 -- "equal": n, the edges, both paintings and the tree mark; with a tree also root and parents
 pub record SameContents (c d : Contents) : Type 0 where

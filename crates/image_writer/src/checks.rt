@@ -1,15 +1,18 @@
 // The writer's checks: 1, 2 and 13, of any numbers whatever.
-ghost use Rattle.std.specs.Prelude.{◌≡◌, not, ◌&&◌, ◌||◌, ◌≤◌, eqb, length};
-ghost use Rattle.graph.specs.Graph.{graph};
+ghost use Rattle.std.specs.Prelude.{◌≡◌, not, ◌&&◌, ◌||◌, ◌≤◌, eqb, is_some, length};
+ghost use Rattle.refusals.specs.Refusals.{number_of};
+ghost use Rattle.graph.specs.Graph.{graph_of};
 ghost use Rattle.graph.specs.Checks.{lists_fit};
-ghost use Rattle.image.specs.Contents.{contents};
+ghost use Rattle.image.specs.Contents.{contents_lent, parents_lent};
 ghost use Rattle.image_writer.specs.WriteImage.{numbers_ok, write_refusal};
 ghost use Rattle.image_writer.specs.Steps.Size.{tree_size, image_size, lengths_fit};
 
-use graph::edges::{lists_fit, vertices_fit};
+use graph::edges::vertices_fit;
 use image_sections::held::{amounts_held, edges_held, tree_held};
+use refusals::Refusal;
+use transport_problem::Problem;
 
-// The bytes of a tree of n vertices, or none.
+// The bytes of a tree of n vertices, or none; only whether there is one counts.
 pub fn tree_size(n: usize, tree: bool) -> usize
     requires { n ≤ 64 }
     ensures { result ≡ tree_size n tree }
@@ -26,114 +29,82 @@ pub fn image_size(n: usize, m: usize, tree: bool) -> usize
 }
 
 // The parents are n long, where there is a tree.
-fn parents_ok(n: usize, tree: bool, parents: usize) -> bool
-    ensures { result ≡ not tree || eqb parents n }
+fn parents_ok(n: usize, tree: Option<(usize, &[u32])>) -> bool
+    ensures { result ≡ not (is_some tree.entry) || eqb (length (parents_lent tree.entry)) n }
 {
-    if !tree {
-        return true;
+    match tree {
+        Some((_, parents)) => parents.len() == n,
+        None => true,
     }
-    parents == n
 }
 
-// What check 2 asks of paintings and parents of these lengths, and of the room in a buffer.
+// What check 2 asks of the lengths of paintings and parents, and of the room in a buffer.
 fn lengths_ok(
     n: usize,
     m: usize,
-    mu: usize,
-    nu: usize,
-    tree: bool,
-    parents: usize,
+    mu: &[u64],
+    nu: &[u64],
+    tree: Option<(usize, &[u32])>,
     room: usize,
 ) -> bool
     requires { (n ≤ 64) × (m ≤ 512) }
-    ensures { result ≡ lengths_fit n m mu nu tree parents room }
+    ensures { result ≡ lengths_fit n m (length mu.now) (length nu.now) (is_some tree.entry) (length (parents_lent tree.entry)) room }
 {
-    if mu != n {
-        return false;
-    }
-    if nu != n {
-        return false;
-    }
-    if !parents_ok(n, tree, parents) {
-        return false;
-    }
-    image_size(n, m, tree) <= room
+    mu.len() == n
+        && nu.len() == n
+        && parents_ok(n, tree)
+        && image_size(n, m, tree.is_some()) <= room
 }
 
 // Check 13: the sections can hold every number.
-fn numbers_ok(
-    n: usize,
-    a: &[u32],
-    b: &[u32],
-    lengths: &[u32],
-    mu: &[u64],
-    nu: &[u64],
-    tree: bool,
-    root: usize,
-    parents: &[u32],
-) -> bool
+#[tactic(auto, unfolding(crate::specs::WriteImage::numbers_ok))]
+fn numbers_ok(problem: &Problem<'_>, tree: Option<(usize, &[u32])>) -> bool
     ensures { result ≡ numbers_ok
-        (contents (graph n a.now b.now lengths.now) mu.now nu.now tree root parents.now) }
+        (contents_lent (graph_of problem.now.graph) problem.now.mu.now problem.now.nu.now tree.entry) }
 {
-    if !edges_held(a, b, lengths) {
-        return false;
-    }
-    if !amounts_held(mu) {
-        return false;
-    }
-    if !amounts_held(nu) {
-        return false;
-    }
-    tree_held(tree, root, parents)
+    edges_held(&problem.graph)
+        && amounts_held(problem.mu)
+        && amounts_held(problem.nu)
+        && tree_held(tree)
 }
 
 // Check 2.
-fn tables_ok(
-    n: usize,
-    a: &[u32],
-    b: &[u32],
-    lengths: &[u32],
-    mu: &[u64],
-    nu: &[u64],
-    tree: bool,
-    parents: &[u32],
-    room: usize,
-) -> bool
-    requires { n ≤ 64 }
-    ensures { result ≡ lists_fit a.now b.now lengths.now
-        && lengths_fit n (length a.now) (length mu.now) (length nu.now) tree (length parents.now) room }
+#[tactic(auto, using(graph::proofs::Laws::Accepted::lists_fit_in))]
+fn tables_ok(problem: &Problem<'_>, tree: Option<(usize, &[u32])>, room: usize) -> bool
+    requires { problem.now.graph.n ≤ 64 }
+    ensures { result ≡ lists_fit problem.now.graph.a.now problem.now.graph.b.now problem.now.graph.lengths.now
+        && lengths_fit problem.now.graph.n (length problem.now.graph.a.now) (length problem.now.mu.now) (length problem.now.nu.now) (is_some tree.entry) (length (parents_lent tree.entry)) room }
 {
-    if !lists_fit(a, b, lengths) {
-        return false;
-    }
-    lengths_ok(n, a.len(), mu.len(), nu.len(), tree, parents.len(), room)
+    problem.graph.lists_fit()
+        && lengths_ok(
+            problem.graph.n,
+            problem.graph.a.len(),
+            problem.mu,
+            problem.nu,
+            tree,
+            room,
+        )
 }
 
 // Checks 1, 2 and 13, for a buffer with room for so many bytes.
-pub fn write_refusal(
-    n: usize,
-    a: &[u32],
-    b: &[u32],
-    lengths: &[u32],
-    mu: &[u64],
-    nu: &[u64],
-    tree: bool,
-    root: usize,
-    parents: &[u32],
+#[tactic(auto, using(crate::proofs::Laws::Size::tables_are, graph::proofs::Laws::Accepted::vertices_in), unfolding(crate::specs::WriteImage::write_checks, graph::specs::Checks::size_checks, arithmetic::specs::Refusal::refusal))]
+pub fn check(
+    problem: &Problem<'_>,
+    tree: Option<(usize, &[u32])>,
     room: usize,
-) -> u32
-    ensures { result ≡ write_refusal
-        (contents (graph n a.now b.now lengths.now) mu.now nu.now tree root parents.now)
+) -> Result<(), Refusal>
+    ensures { number_of result ≡ write_refusal
+        (contents_lent (graph_of problem.now.graph) problem.now.mu.now problem.now.nu.now tree.entry)
         room }
 {
-    if !vertices_fit(n) {
-        return 1;
+    if !vertices_fit(problem.graph.n) {
+        return Err(Refusal::Vertices);
     }
-    if !tables_ok(n, a, b, lengths, mu, nu, tree, parents, room) {
-        return 2;
+    if !tables_ok(problem, tree, room) {
+        return Err(Refusal::Tables);
     }
-    if !numbers_ok(n, a, b, lengths, mu, nu, tree, root, parents) {
-        return 13;
+    if !numbers_ok(problem, tree) {
+        return Err(Refusal::Layout);
     }
-    0
+    Ok(())
 }

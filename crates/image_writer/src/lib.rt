@@ -6,24 +6,20 @@ mod checks; // checks 1, 2 and 13
 ghost use Rattle.std.specs.Prelude.{◌≡◌, [], ◌∷◌, ◌*◌, ◌≤◌, length};
 ghost use Rattle.arithmetic.specs.Table.{at, written};
 ghost use Rattle.little_endian.specs.Steps.Buffer.{placed};
-ghost use Rattle.graph.specs.Graph.{graph};
-ghost use Rattle.image.specs.Contents.{contents};
+ghost use Rattle.refusals.specs.Refusals.{number_of};
+ghost use Rattle.graph.specs.Graph.{graph_of};
+ghost use Rattle.image.specs.Contents.{contents_lent};
 ghost use Rattle.packed_image.specs.Packed.{header};
 ghost use Rattle.image_writer.specs.ImageBytes.{image_bytes};
-ghost use Rattle.image_writer.specs.WriteImage.{ImageWritten};
+ghost use Rattle.image_writer.specs.WriteImage.{ImageWritten, length_of};
 ghost use Rattle.image_writer.specs.Steps.Size.{tree_size};
 ghost use Rattle.image_writer.specs.Steps.Writable.{Writable};
 
-use checks::{image_size, tree_size, write_refusal};
+use checks::{check, image_size, tree_size};
 use image_sections::write::{write_amounts, write_edges, write_tree};
 use packed_image::write_header;
-
-// What the writer returns: the refusal number and, after a success, the length of the image.
-#[derive(Clone, Copy)]
-pub struct Written {
-    pub refusal: u32,
-    pub length: usize,
-}
+use refusals::Refusal;
+use transport_problem::Problem;
 
 // The header of an image of n vertices and m edges.
 fn write_front(n: usize, m: usize, tree: bool, buffer: &mut [u8])
@@ -39,58 +35,34 @@ fn write_front(n: usize, m: usize, tree: bool, buffer: &mut [u8])
 }
 
 // The image of what was accepted: each section is written into the part of the buffer that starts where it does.
-fn write_all(
-    n: usize,
-    a: &[u32],
-    b: &[u32],
-    lengths: &[u32],
-    mu: &[u64],
-    nu: &[u64],
-    tree: bool,
-    root: usize,
-    parents: &[u32],
-    buffer: &mut [u8],
-)
-    requires { Writable (contents (graph n a.now b.now lengths.now) mu.now nu.now tree root parents.now) (length buffer.old) }
+fn write_all(problem: &Problem<'_>, tree: Option<(usize, &[u32])>, buffer: &mut [u8])
+    requires { Writable (contents_lent (graph_of problem.now.graph) problem.now.mu.now problem.now.nu.now tree) (length buffer.old) }
     ensures { buffer.new ≡ written 0
-        (image_bytes (contents (graph n a.now b.now lengths.now) mu.now nu.now tree root
-        parents.now)) buffer.old }
+        (image_bytes (contents_lent (graph_of problem.now.graph) problem.now.mu.now problem.now.nu.now tree.entry)) buffer.old }
 {
-    let m = a.len();
-    write_front(n, m, tree, buffer);
-    write_edges(a, b, lengths, &mut buffer[36..]);
+    let n = problem.graph.n;
+    let m = problem.graph.a.len();
+    write_front(n, m, tree.is_some(), buffer);
+    write_edges(&problem.graph, &mut buffer[36..]);
     let second = 36 + 4 * m;
-    write_amounts(n, mu, &mut buffer[second..]);
+    write_amounts(n, problem.mu, &mut buffer[second..]);
     let third = 36 + 4 * m + 4 * n;
-    write_amounts(n, nu, &mut buffer[third..]);
+    write_amounts(n, problem.nu, &mut buffer[third..]);
     let fourth = 36 + 4 * m + 8 * n;
-    write_tree(n, tree, root, parents, &mut buffer[fourth..]);
+    write_tree(n, tree, &mut buffer[fourth..]);
 }
 
-// Writes an image with its sections back to back; without a tree, root and parents are not looked at.
+// Writes an image with its sections back to back, and returns its length.
 pub fn write_image(
-    n: usize,
-    a: &[u32],
-    b: &[u32],
-    lengths: &[u32],
-    mu: &[u64],
-    nu: &[u64],
-    tree: bool,
-    root: usize,
-    parents: &[u32],
+    problem: &Problem<'_>,
+    tree: Option<(usize, &[u32])>,
     buffer: &mut [u8],
-) -> Written
+) -> Result<usize, Refusal>
     ensures { ImageWritten
-        (contents (graph n a.now b.now lengths.now) mu.now nu.now tree root parents.now)
-        buffer.old result.refusal result.length buffer.new }
+        (contents_lent (graph_of problem.now.graph) problem.now.mu.now problem.now.nu.now tree.entry)
+        buffer.old (number_of result) (length_of result) buffer.new }
 {
-    let refusal = write_refusal(n, a, b, lengths, mu, nu, tree, root, parents, buffer.len());
-    if refusal != 0 {
-        return Written { refusal, length: 0 };
-    }
-    write_all(n, a, b, lengths, mu, nu, tree, root, parents, buffer);
-    Written {
-        refusal,
-        length: image_size(n, a.len(), tree),
-    }
+    check(problem, tree, buffer.len())?;
+    write_all(problem, tree, buffer);
+    Ok(image_size(problem.graph.n, problem.graph.a.len(), tree.is_some()))
 }

@@ -13,14 +13,12 @@ pub fn write_listing(image: &[u8], out: &mut [u8; 131072]) -> usize
     let mut potential = [0i32; 64];
     let mut plan = [0u32; 4096];
     // room for the record of 64 vertices
-    let found = answer_image(image, 16717, &mut potential, &mut plan);
-    if found.refusal != 0 {
-        return write_refused(found.refusal, out);
+    let found = match answer_image(image, 16717, &mut potential, &mut plan) {
+        Ok(found) => found,
+        Err(refusal) => return write_refused(refusal.number(), out),
+    };
+    if found.given {
+        return write_evaluated(found.tree.n, found.cost, found.moves as u64, &plan, out);
     }
-    let cost = found.cost;
-    let moves = found.moves as u64;
-    if found.given == 0 {
-        return write_best(cost, out);
-    }
-    write_evaluated(found.tree.n, cost, moves, &plan, out)
+    write_best(found.cost, out)
 }

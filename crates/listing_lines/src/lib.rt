@@ -3,7 +3,7 @@
 
 ghost use Rattle.std.specs.Prelude.{◌≡◌, ◌++◌, ◌+◌, ◌*◌, ◌≤◌, ◌<◌, length};
 ghost use Rattle.arithmetic.specs.Steps.Table.{cell};
-ghost use Rattle.arithmetic.specs.Table.{written};
+ghost use Rattle.arithmetic.specs.Table.{at, written};
 ghost use Rattle.decimal_text.specs.Steps.Wrote.{Wrote};
 ghost use Rattle.listing_lines.specs.Lines.{line, cost_word, moves_word, best_word, refused_word, entry_line, row_lines, plan_lines};
 
@@ -34,17 +34,16 @@ fn write_entry(i: usize, j: usize, v: u32, from: usize, out: &mut [u8]) -> usize
 }
 
 // Row i.
-fn write_row(n: usize, i: usize, plan: &[u32], from: usize, out: &mut [u8]) -> usize
-    requires { (n ≤ 64) × (i < n) × (i * n + n ≤ length plan.now) × (from + 17 * n ≤ length out.old) }
-    ensures { (result ≤ from + 17 * n)
-        × Wrote from (row_lines (cell n plan.now i) i n) out.old out.new result }
+fn write_row(i: usize, row: &[u32], from: usize, out: &mut [u8]) -> usize
+    requires { (i < 64) × (length row.now ≤ 64) × (from + 17 * length row.now ≤ length out.old) }
+    ensures { (result ≤ from + 17 * length row.now)
+        × Wrote from (row_lines (at row.now) i (length row.now)) out.old out.new result }
 {
-    let row = i * n;
-    let mut at = from;
-    for j in 0..n {
-        at = write_entry(i, j, plan[row + j], at, out);
+    let mut end = from;
+    for (j, v) in row.iter().enumerate() {
+        end = write_entry(i, j, *v, end, out);
     }
-    at
+    end
 }
 
 // All rows.
@@ -52,11 +51,11 @@ fn write_rows(n: usize, plan: &[u32], from: usize, out: &mut [u8]) -> usize
     requires { (n ≤ 64) × (n * n ≤ length plan.now) × (from + 17 * (n * n) ≤ length out.old) }
     ensures { Wrote from (plan_lines (cell n plan.now) n n) out.old out.new result }
 {
-    let mut at = from;
+    let mut end = from;
     for i in 0..n {
-        at = write_row(n, i, plan, at, out);
+        end = write_row(i, &plan[i * n..i * n + n], end, out);
     }
-    at
+    end
 }
 
 // The listing of an evaluated tree.
@@ -81,7 +80,7 @@ pub fn write_best(cost: u64, out: &mut [u8]) -> usize
     write_line(b"best", cost, 0, out)
 }
 
-// The listing of refusal k.
+// The listing of refusal k. A number, as its clauses hold of any.
 pub fn write_refused(k: u32, out: &mut [u8]) -> usize
     requires { 131072 ≤ length out.old }
     ensures text { out.new ≡ written 0 (line refused_word k) out.old }

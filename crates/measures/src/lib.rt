@@ -1,45 +1,41 @@
 // Checks 6 and 7: two measures on the vertices (document 01's paintings) and their totals.
 #![tactic(auto)]
 
-ghost use Rattle.std.specs.Prelude.{◌≡◌, ◌+◌, ◌≤◌, ◌^◌, min, length};
+ghost use Rattle.std.specs.Prelude.{◌≡◌, ◌≤◌, ◌<◌, ◌^◌, length, IfOk, IfErr};
 ghost use Rattle.arithmetic.specs.Sum.{sum};
 ghost use Rattle.arithmetic.specs.Table.{at};
 ghost use Rattle.arithmetic.specs.Refusal.{refusal};
+ghost use Rattle.refusals.specs.Refusals.{number_of};
 ghost use Rattle.measures.specs.Checks.{measure_checks};
 
-// the total of the first n amounts, or 16,777,217 where it is more than 16,777,216
-pub fn capped_total(n: usize, amounts: &[u64]) -> u64
+use refusals::Refusal;
+
+// the total of the first n amounts, refused above 16,777,216
+pub fn total(n: usize, amounts: &[u64]) -> Result<u64, Refusal>
     requires { n ≤ length amounts.now }
-    ensures { result ≡ min (sum n (at amounts.now)) (2 ^ 24 + 1) }
+    ensures within { IfOk result (λ t. (t ≡ sum n (at amounts.now)) × (t ≤ 2 ^ 24)) }
+    ensures above { IfErr result (λ r. (r ≡ Refusal.Total) × (2 ^ 24 < sum n (at amounts.now))) }
 {
     let mut t: u64 = 0;
-    let mut x: usize = 0;
-    while x < n {
-        let v = amounts[x];
+    for &v in &amounts[..n] {
         if v > 16777216 - t {
-            return 16777217;
+            return Err(Refusal::Total);
         }
         t += v;
-        x += 1;
     }
-    t
+    Ok(t)
 }
 
 // checks 6 and 7
-pub fn measures_refusal(n: usize, mu: &[u64], nu: &[u64]) -> u32
+#[tactic(auto, using(crate::proofs::Laws::Totals::totals), unfolding(arithmetic::specs::Refusal::refusal, crate::specs::Checks::measure_checks))]
+pub fn check(n: usize, mu: &[u64], nu: &[u64]) -> Result<(), Refusal>
     requires { (n ≤ length mu.now) × (n ≤ length nu.now) }
-    ensures { result ≡ refusal (measure_checks n (at mu.now) (at nu.now)) }
+    ensures { number_of result ≡ refusal (measure_checks n (at mu.now) (at nu.now)) }
 {
-    let s = capped_total(n, mu);
-    if s > 16777216 {
-        return 6;
-    }
-    let t = capped_total(n, nu);
-    if t > 16777216 {
-        return 6;
-    }
+    let s = total(n, mu)?;
+    let t = total(n, nu)?;
     if s != t {
-        return 7;
+        return Err(Refusal::UnequalTotals);
     }
-    0
+    Ok(())
 }

@@ -1,113 +1,66 @@
 // The search for a best tree: network simplex.
 ghost use Rattle.std.specs.Prelude.{◌≡◌, ◌<◌, length};
 ghost use Rattle.arithmetic.specs.Table.{at};
-ghost use Rattle.graph.specs.Graph.{graph};
-ghost use Rattle.tree_pivot.specs.Steps.Basis.{tables};
+ghost use Rattle.graph.specs.Graph.{graph_of};
+ghost use Rattle.tree_pivot.specs.Steps.Basis.{tables_of};
 ghost use Rattle.pricing.specs.Steps.Entering.{violation_at};
 ghost use Rattle.first_basis.specs.Steps.FirstBasis.{CanStart};
 ghost use Rattle.network_simplex.specs.Steps.Search.{CanSearch, Improved, Optimized, BestTree};
 
+use graph::Graph;
 use spanning_tree::tree::Tree;
+use transport_problem::Problem;
+use tree_pivot::Basis;
 
 // One step: edge e, which the potential violates, enters, and another leaves.
-fn improve(
-    n: usize,
-    a: &[u32],
-    b: &[u32],
-    lengths: &[u32],
-    e: usize,
-    parents: &mut [u32; 64],
-    above: &mut [u32; 64],
-    supply: &mut [u64; 64],
-    demand: &mut [u64; 64],
-    masks: &mut [u64; 64],
-    potential: &mut [u32; 64],
-)
-    requires { CanSearch (graph n a.now b.now lengths.now) (tables parents.old above.old supply.old demand.old masks.old potential.old)
-        × (e < length a.now) × (0 < violation_at (graph n a.now b.now lengths.now) potential.old e) }
-    ensures { Improved (graph n a.now b.now lengths.now)
-        (tables parents.old above.old supply.old demand.old masks.old potential.old)
-        (tables parents.new above.new supply.new demand.new masks.new potential.new) }
+fn improve(g: &Graph<'_>, e: usize, basis: &mut Basis)
+    requires { CanSearch (graph_of g.now) (tables_of basis.old)
+        × (e < length g.now.a.now) × (0 < violation_at (graph_of g.now) basis.old.potential e) }
+    ensures { Improved (graph_of g.now) (tables_of basis.old) (tables_of basis.new) }
 {
-    let edge = pricing::downhill_edge(n, a, b, lengths, potential, e);
-    let x = ratio_test::exchange(n, edge.s, edge.t, edge.long, parents, supply, demand, masks);
-    tree_pivot::pivot(n, x, parents, above, supply, demand, masks, potential);
+    let edge = pricing::downhill_edge(g, &basis.potential, e);
+    let x = ratio_test::exchange(g.n, edge, basis);
+    basis.pivot(g.n, x);
 }
 
 // Improves the basis until the potential violates no edge.
-fn search(
-    n: usize,
-    a: &[u32],
-    b: &[u32],
-    lengths: &[u32],
-    parents: &mut [u32; 64],
-    above: &mut [u32; 64],
-    supply: &mut [u64; 64],
-    demand: &mut [u64; 64],
-    masks: &mut [u64; 64],
-    potential: &mut [u32; 64],
-)
-    requires { CanSearch (graph n a.now b.now lengths.now) (tables parents.old above.old supply.old demand.old masks.old potential.old) }
-    ensures { Optimized (graph n a.now b.now lengths.now)
-        (tables parents.old above.old supply.old demand.old masks.old potential.old)
-        (tables parents.new above.new supply.new demand.new masks.new potential.new) }
+fn search(g: &Graph<'_>, basis: &mut Basis)
+    requires { CanSearch (graph_of g.now) (tables_of basis.old) }
+    ensures { Optimized (graph_of g.now) (tables_of basis.old) (tables_of basis.new) }
 {
-    let mut e = pricing::entering_edge(n, a, b, lengths, supply, demand, potential, 0);
-    while e < a.len() {
-        improve(
-            n, a, b, lengths, e, parents, above, supply, demand, masks, potential,
-        );
-        let next = pricing::next_block(e);
-        e = pricing::entering_edge(n, a, b, lengths, supply, demand, potential, next);
+    let mut entering = pricing::entering_edge(g, basis, 0);
+    while let Some(e) = entering {
+        improve(g, e, basis);
+        entering = pricing::entering_edge(g, basis, pricing::next_block(e));
     }
 }
 
-// A best tree, from a spanning tree given by the parents and the edges to them; fills in the length above each of its vertices, and its
-// potential.
-pub fn best_tree(
-    n: usize,
-    a: &[u32],
-    b: &[u32],
-    lengths: &[u32],
-    mu: &[u64],
-    nu: &[u64],
-    parents: &mut [u32; 64],
-    edge: &[u32; 64],
-    above: &mut [u32; 64],
-    potential: &mut [u32; 64],
-) -> Tree
-    requires { CanStart (graph n a.now b.now lengths.now) mu.now nu.now parents.old edge.now
-        × ((length above.old ≡ 64) × (length potential.old ≡ 64)) }
-    ensures { BestTree (graph n a.now b.now lengths.now) (at mu.now) (at nu.now)
-        result.n result.root result.parents above.new potential.new }
+// What the search finds: a best tree, the length of the edge above each of its vertices, and its potential.
+#[derive(Clone, Copy)]
+pub struct Optimum {
+    pub tree: Tree,
+    pub above: [u32; 64],
+    pub potential: [u32; 64],
+}
+
+// A best tree, from a spanning tree given by the parents and the edges to them.
+pub fn best_tree(problem: &Problem<'_>, first: &[u32; 64], edge: &[u32; 64]) -> Optimum
+    requires { CanStart (graph_of problem.now.graph) problem.now.mu.now problem.now.nu.now first.now edge.now }
+    ensures { BestTree (graph_of problem.now.graph) (at problem.now.mu.now) (at problem.now.nu.now)
+        result.tree.n result.tree.root result.tree.parents result.above result.potential }
 {
-    let mut supply = [0u64; 64];
-    let mut demand = [0u64; 64];
-    let mut masks = [0u64; 64];
-    first_basis::tree_basis(
-        n,
-        lengths,
-        mu,
-        nu,
-        parents,
+    let mut basis = first_basis::tree_basis(
+        problem.graph.n,
+        problem.graph.lengths,
+        problem.mu,
+        problem.nu,
+        first,
         edge,
-        above,
-        &mut supply,
-        &mut demand,
-        &mut masks,
-        potential,
     );
-    search(
-        n,
-        a,
-        b,
-        lengths,
-        parents,
-        above,
-        &mut supply,
-        &mut demand,
-        &mut masks,
-        potential,
-    );
-    Tree::new(n, 0, parents)
+    search(&problem.graph, &mut basis);
+    Optimum {
+        tree: Tree::new(problem.graph.n, 0, &basis.parents),
+        above: basis.above,
+        potential: basis.potential,
+    }
 }

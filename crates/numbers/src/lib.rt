@@ -1,4 +1,5 @@
 // Machine numbers: the smaller of two, how far they are apart, their differences, and one under a test.
+// The first three are the library's methods by the names of the definitions: they stay, since README names the crate as one to use.
 #![tactic(auto)]
 
 ghost use Rattle.std.specs.Prelude.{◌≡◌, ◌-◌, ◌^◌, ◌<◌, min};
@@ -10,21 +11,21 @@ ghost use Rattle.arithmetic.specs.Steps.Product.{gap};
 pub fn smaller(a: u32, b: u32) -> u32
     ensures { result ≡ min a b }
 {
-    if a < b { a } else { b }
+    a.min(b)
 }
 
 // |a − b|
 pub fn gap(a: u64, b: u64) -> u64
     ensures { result ≡ gap a b }
 {
-    if a < b { b - a } else { a - b }
+    a.abs_diff(b)
 }
 
 // a − b, or 0 where b is larger
 pub fn monus(a: u64, b: u64) -> u64
     ensures { result ≡ a - b }
 {
-    if b < a { a - b } else { 0 }
+    a.saturating_sub(b)
 }
 
 // a − b, with its sign

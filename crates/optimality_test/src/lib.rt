@@ -1,97 +1,58 @@
 // The optimality test of a given tree, document 01's judging.
+// Tables of 64 entries stand for lists of n: a rule of the project, no heap.
 #![tactic(auto)]
 
 ghost use Rattle.std.specs.Prelude.{◌≡◌, length};
 ghost use Rattle.arithmetic.specs.Table.{at};
-ghost use Rattle.graph.specs.Graph.{graph};
+ghost use Rattle.refusals.specs.Refusals.{number_of};
+ghost use Rattle.graph.specs.Graph.{graph_of};
 ghost use Rattle.graph.specs.Steps.EdgeTree.{EdgeTree};
 ghost use Rattle.transport_problem.specs.Steps.TransportProblem.{TransportProblem};
 ghost use Rattle.given_tree.specs.Given.{given};
 ghost use Rattle.duality.specs.BestCost.{best_cost};
-ghost use Rattle.optimality_test.specs.OptimalityTest.{OptimalityTested};
+ghost use Rattle.optimality_test.specs.OptimalityTest.{OptimalityTested, optimal_of};
 ghost use Rattle.optimality_test.specs.Steps.TreeCosts.{CanCost, CostOf};
 
 use network_simplex::search::best_tree;
+use refusals::Refusal;
 use spanning_tree::tree::Tree;
-use tree_evaluation::evaluate_tree;
-
-// 0 or a refusal number, and 1 where the tree is a best one
-#[derive(Clone, Copy)]
-pub struct Optimality {
-    pub refusal: u32,
-    pub optimal: u32,
-}
+use transport_problem::Problem;
+use tree_evaluation::tree_flow;
 
 // The cost of an accepted tree. `above` has the length from each vertex to its parent.
 fn cost_of(tree: Tree, above: &[u32], mu: &[u64], nu: &[u64]) -> u64
     requires { CanCost tree.n tree.root tree.parents above.now mu.now nu.now }
     ensures { CostOf tree.n tree.root tree.parents above.now mu.now nu.now result }
 {
+    let mut depths = [0u32; 64];
     let mut masks = [0u64; 64];
     let mut imbalance = [0i32; 64];
-    let mut plan = [0u32; 4096];
-    let value = evaluate_tree(tree, above, mu, nu, &mut masks, &mut imbalance, &mut plan);
-    value.cost
+    tree_flow(tree, above, mu, nu, &mut depths, &mut masks, &mut imbalance)
 }
 
 // The cost of a best tree, from a first spanning tree.
-fn least_cost(
-    n: usize,
-    a: &[u32],
-    b: &[u32],
-    lengths: &[u32],
-    mu: &[u64],
-    nu: &[u64],
-    first: &mut [u32; 64],
-    edge: &[u32; 64],
-) -> u64
-    requires { TransportProblem (graph n a.now b.now lengths.now) mu.now nu.now
-        × (EdgeTree (graph n a.now b.now lengths.now) 0 first.old edge.now × ((length first.old ≡ 64) × (length edge.now ≡ 64))) }
-    ensures { result ≡ best_cost (graph n a.now b.now lengths.now) (at mu.now) (at nu.now) }
+fn least_cost(problem: &Problem<'_>, first: &[u32; 64], edge: &[u32; 64]) -> u64
+    requires { TransportProblem (graph_of problem.now.graph) problem.now.mu.now problem.now.nu.now
+        × (EdgeTree (graph_of problem.now.graph) 0 first.now edge.now × ((length first.now ≡ 64) × (length edge.now ≡ 64))) }
+    ensures { result ≡ best_cost (graph_of problem.now.graph) (at problem.now.mu.now) (at problem.now.nu.now) }
 {
-    let mut above = [0u32; 64];
-    let mut u = [0u32; 64];
-    let tree = best_tree(n, a, b, lengths, mu, nu, first, edge, &mut above, &mut u);
-    cost_of(tree, &above, mu, nu)
+    let found = best_tree(problem, first, edge);
+    cost_of(found.tree, &found.above, problem.mu, problem.nu)
 }
 
 // Whether no spanning tree costs less than a given one.
-pub fn is_optimal(
-    n: usize,
-    a: &[u32],
-    b: &[u32],
-    lengths: &[u32],
-    mu: &[u64],
-    nu: &[u64],
-    root: usize,
-    parents: &[u32],
-) -> Optimality
-    ensures { OptimalityTested (graph n a.now b.now lengths.now)
-        (given mu.now nu.now root parents.now) result.refusal result.optimal }
+pub fn is_optimal(problem: &Problem<'_>, root: usize, parents: &[u32]) -> Result<bool, Refusal>
+    ensures { OptimalityTested (graph_of problem.now.graph)
+        (given problem.now.mu.now problem.now.nu.now root parents.now) (number_of result) (optimal_of result) }
 {
     let mut above = [0u32; 64];
     let mut first = [0u32; 64];
     let mut edge = [0u32; 64];
-    let k = given_tree::given_refusal(
-        n, a, b, lengths, mu, nu, root, parents, true, &mut above, &mut first, &mut edge,
-    );
-    if k != 0 {
-        return Optimality {
-            refusal: k,
-            optimal: 0,
-        };
-    }
-    let tree = Tree::new(n, root, parents);
-    let cost = cost_of(tree, &above, mu, nu);
-    let least = least_cost(n, a, b, lengths, mu, nu, &mut first, &edge);
-    if cost == least {
-        return Optimality {
-            refusal: 0,
-            optimal: 1,
-        };
-    }
-    Optimality {
-        refusal: 0,
-        optimal: 0,
-    }
+    given_tree::check(
+        problem, root, parents, true, &mut above, &mut first, &mut edge,
+    )?;
+    let tree = Tree::new(problem.graph.n, root, parents);
+    let cost = cost_of(tree, &above, problem.mu, problem.nu);
+    let least = least_cost(problem, &first, &edge);
+    Ok(cost == least)
 }

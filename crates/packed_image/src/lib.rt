@@ -7,15 +7,15 @@ ghost use Rattle.little_endian.specs.LittleEndian.{byte_of};
 ghost use Rattle.little_endian.specs.Steps.Buffer.{placed};
 ghost use Rattle.packed_image.specs.Packed.{start as start_of, pair, header};
 
-use little_endian::write::{put_byte, put_two, put_word};
+use little_endian::write::put;
 
 // The offset and the length of a section, from place p on.
 fn write_pair(p: usize, start: u32, long: u32, out: &mut [u8])
     requires { p + 8 ≤ length out.old }
     ensures { out.new ≡ placed p (tab 4 (byte_of start) ++ tab 4 (byte_of long)) out.old }
 {
-    put_word(p, start, out);
-    put_word(p + 4, long, out);
+    put::<4>(p, start as u64, out);
+    put::<4>(p + 4, long as u64, out);
 }
 
 // The pairs of sections of these lengths, `first` being where the first one starts.
@@ -39,9 +39,9 @@ pub fn write_header(n: u32, form: u32, m: u32, lengths: &[u32], out: &mut [u8])
     ensures { out.new
         ≡ placed 0 (header n form m (length lengths.now) (at lengths.now)) out.old }
 {
-    put_byte(0, n, out);
-    put_byte(1, form, out);
-    put_two(2, m, out);
+    put::<1>(0, n as u64, out);
+    put::<1>(1, form as u64, out);
+    put::<2>(2, m as u64, out);
     let first = 4 + 8 * lengths.len() as u32;
     write_pairs(first, lengths, &mut out[4..]);
 }

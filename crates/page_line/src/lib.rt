@@ -13,10 +13,9 @@ fn write_spaces(count: usize, from: usize, out: &mut [u8]) -> usize
     requires { from + count ≤ length out.old }
     ensures { Wrote from (spaces count) out.old out.new result }
 {
-    for i in 0..count {
-        out[from + i] = 32;
-    }
-    from + count
+    let end = from + count;
+    out[from..end].fill(b' ');
+    end
 }
 
 // Columns 0 to 67: a vertex at its depth.

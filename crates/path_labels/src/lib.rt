@@ -8,7 +8,10 @@ ghost use Rattle.arithmetic.specs.Table.{at};
 ghost use Rattle.path_labels.specs.Steps.Weight.{weight_of, unreached};
 ghost use Rattle.path_labels.specs.Steps.Labels.{SomeLabelled, Initialized, CanRelax, Relaxed, SweepsUp, SweepsDown, FeasibleUp, Rounds};
 
-// The label of a vertex that is not reached: more than any path of a tree weighs.
+use graph::Graph;
+
+// The label of a vertex that is not reached: more than any path of a tree weighs. It stays a number in place of a None, as labels are only compared, and their
+// sum is what a round lowers.
 const UNREACHED: u32 = 1 << 30;
 
 // What an edge of length `long` weighs.
@@ -24,10 +27,8 @@ pub fn initialize(start: usize, parents: &mut [u32], labels: &mut [u32])
     requires { (start < 64) × ((64 ≤ length parents.old) × (64 ≤ length labels.old)) }
     ensures { Initialized start parents.old labels.old parents.new labels.new }
 {
-    for v in 0..64 {
-        parents[v] = start as u32;
-        labels[v] = UNREACHED;
-    }
+    parents[..64].fill(start as u32);
+    labels[..64].fill(UNREACHED);
     labels[start] = 0;
 }
 
@@ -36,12 +37,7 @@ pub fn all_reached(n: usize, labels: &[u32]) -> bool
     requires { n ≤ length labels.now }
     ensures { result ≡ all n (λ v. ltb (at labels.now v) unreached) }
 {
-    for v in 0..n {
-        if labels[v] >= UNREACHED {
-            return false;
-        }
-    }
-    true
+    labels[..n].iter().all(|label| *label < UNREACHED)
 }
 
 // Hangs the end of edge e in `to` on that in `from`, if that lowers its label; says whether it did.
@@ -72,67 +68,41 @@ fn relax(
 
 // Every edge, by rising number, from its lower end to its upper one; says whether a label was lowered. The label that an edge lowers is that of its upper end, from
 // which no edge before it goes up: so at the end no edge can lower a label upward.
-pub fn sweep_up(
-    a: &[u32],
-    b: &[u32],
-    lengths: &[u32],
-    parents: &mut [u32],
-    edge: &mut [u32],
-    labels: &mut [u32],
-) -> bool
-    requires { SomeLabelled a.now b.now lengths.now parents.old edge.old labels.old }
-    ensures { SweepsUp a.now b.now lengths.now (length a.now)
+pub fn sweep_up(g: &Graph<'_>, parents: &mut [u32], edge: &mut [u32], labels: &mut [u32]) -> bool
+    requires { SomeLabelled g.now.a.now g.now.b.now g.now.lengths.now parents.old edge.old labels.old }
+    ensures { SweepsUp g.now.a.now g.now.b.now g.now.lengths.now (length g.now.a.now)
         parents.old edge.old labels.old result parents.new edge.new labels.new }
 {
     let mut lowered = false;
-    for e in 0..a.len() {
-        if relax(a, b, lengths, e, parents, edge, labels) {
-            lowered = true;
-        }
+    for e in 0..g.a.len() {
+        lowered |= relax(g.a, g.b, g.lengths, e, parents, edge, labels);
     }
     lowered
 }
 
-// The same downward: every edge, by falling number, from its upper end to its lower one.
-fn sweep_down(
-    a: &[u32],
-    b: &[u32],
-    lengths: &[u32],
-    parents: &mut [u32],
-    edge: &mut [u32],
-    labels: &mut [u32],
-) -> bool
-    requires { SomeLabelled a.now b.now lengths.now parents.old edge.old labels.old }
-    ensures { SweepsDown a.now b.now lengths.now 0
+// The same downward: every edge, by falling number, from its upper end to its lower one. One function for both would take the order of the edges as an
+// iterator, and its contract would speak of the list that it yields: no plainer than two loops of one line.
+fn sweep_down(g: &Graph<'_>, parents: &mut [u32], edge: &mut [u32], labels: &mut [u32]) -> bool
+    requires { SomeLabelled g.now.a.now g.now.b.now g.now.lengths.now parents.old edge.old labels.old }
+    ensures { SweepsDown g.now.a.now g.now.b.now g.now.lengths.now 0
         parents.old edge.old labels.old result parents.new edge.new labels.new }
 {
     let mut lowered = false;
-    let mut e = a.len();
-    while e > 0 {
-        e -= 1;
-        if relax(b, a, lengths, e, parents, edge, labels) {
-            lowered = true;
-        }
+    for e in (0..g.a.len()).rev() {
+        lowered |= relax(g.b, g.a, g.lengths, e, parents, edge, labels);
     }
     lowered
 }
 
 // A sweep down and, if that lowered a label, one up; says whether each of them did.
-pub fn round(
-    a: &[u32],
-    b: &[u32],
-    lengths: &[u32],
-    parents: &mut [u32],
-    edge: &mut [u32],
-    labels: &mut [u32],
-) -> bool
-    requires { SomeLabelled a.now b.now lengths.now parents.old edge.old labels.old
-        × FeasibleUp a.now b.now lengths.now labels.old }
-    ensures { Rounds a.now b.now lengths.now
+pub fn round(g: &Graph<'_>, parents: &mut [u32], edge: &mut [u32], labels: &mut [u32]) -> bool
+    requires { SomeLabelled g.now.a.now g.now.b.now g.now.lengths.now parents.old edge.old labels.old
+        × FeasibleUp g.now.a.now g.now.b.now g.now.lengths.now labels.old }
+    ensures { Rounds g.now.a.now g.now.b.now g.now.lengths.now
         parents.old edge.old labels.old result parents.new edge.new labels.new }
 {
-    if !sweep_down(a, b, lengths, parents, edge, labels) {
+    if !sweep_down(g, parents, edge, labels) {
         return false;
     }
-    sweep_up(a, b, lengths, parents, edge, labels)
+    sweep_up(g, parents, edge, labels)
 }

@@ -5,16 +5,16 @@ ghost use Rattle.std.specs.Prelude.{◌≡◌, ◌*◌, ◌≤◌, ◌<◌, leng
 ghost use Rattle.arithmetic.specs.Sum.{sum};
 ghost use Rattle.arithmetic.specs.Steps.Table.{cell};
 ghost use Rattle.plan_rule.specs.Plan.{moves};
-ghost use Rattle.plan_moves.specs.Steps.Count.{positive_at, move_at};
+ghost use Rattle.plan_moves.specs.Steps.Count.{is_move, move_at};
 
 use tables::place;
 
-// Whether i sends anything to j, as 0 or 1.
-fn positive_at(n: usize, i: usize, j: usize, plan: &[u32]) -> u32
+// Whether i sends anything to another vertex j.
+fn is_move(n: usize, i: usize, j: usize, plan: &[u32]) -> bool
     requires { (n ≤ 64) × (i < n) × (j < n) × (n * n ≤ length plan.now) }
-    ensures { result ≡ positive_at (cell n plan.now) i j }
+    ensures { result ≡ is_move (cell n plan.now) i j }
 {
-    if 0 < plan[place(n, i, j)] { 1 } else { 0 }
+    i != j && 0 < plan[place(n, i, j)]
 }
 
 // How many vertices other than itself i sends to.
@@ -22,12 +22,13 @@ fn count_row(n: usize, i: usize, plan: &[u32]) -> u32
     requires { (n ≤ 64) × (i < n) × (n * n ≤ length plan.now) }
     ensures { result ≡ sum n (move_at (cell n plan.now) i) }
 {
-    let mut count: u32 = 0;
+    let mut count = 0;
     for j in 0..n {
-        count += positive_at(n, i, j, plan);
+        if is_move(n, i, j, plan) {
+            count += 1;
+        }
     }
-    let own = positive_at(n, i, i, plan);
-    count - own
+    count
 }
 
 // How many moves a plan has.
@@ -35,7 +36,7 @@ pub fn count_moves(n: usize, plan: &[u32]) -> u32
     requires { (n ≤ 64) × (n * n ≤ length plan.now) }
     ensures { result ≡ moves n (λ i j. cell n plan.now i j) }
 {
-    let mut count: u32 = 0;
+    let mut count = 0;
     for i in 0..n {
         count += count_row(n, i, plan);
     }

@@ -16,10 +16,7 @@ fn is_child(root: usize, parents: &[u32], v: usize, c: usize) -> bool
     requires { c < length parents.now }
     ensures { result ≡ is_child root (at parents.now) v c }
 {
-    if c == root {
-        return false;
-    }
-    parents[c] as usize == v
+    c != root && parents[c] as usize == v
 }
 
 // The line of v, which is at the given depth, and then those of its children.

@@ -4,11 +4,12 @@
 ghost use Rattle.std.specs.Prelude.{◌≡◌, ℕ, ◌+◌, ◌*◌, ◌^◌, ◌<◌, ◌≤◌, min, length};
 ghost use Rattle.arithmetic.specs.Table.{at};
 ghost use Rattle.arithmetic.specs.Steps.Table.{EachBelow};
-ghost use Rattle.graph.specs.Graph.{graph};
+ghost use Rattle.graph.specs.Graph.{graph_of};
 ghost use Rattle.graph.specs.Steps.Accepted.{Accepted};
-ghost use Rattle.pricing.specs.Steps.Entering.{EdgeFits, Downhill, Scaled, AllScaled, scaled_violation, half_unit, Largest, MostViolated};
+ghost use Rattle.pricing.specs.Steps.Entering.{EdgeFits, Downhill, Scaled, AllScaled, scaled_violation, half_unit, Found, Entering};
 
-use std::num;
+use graph::Graph;
+use tree_pivot::Basis;
 
 // Edges are looked at in blocks of so many.
 const BLOCK: usize = 64;
@@ -28,20 +29,13 @@ pub struct Edge {
 }
 
 // Edge e, from its end with the higher potential.
-pub fn downhill_edge(
-    n: usize,
-    a: &[u32],
-    b: &[u32],
-    lengths: &[u32],
-    potential: &[u32; 64],
-    e: usize,
-) -> Edge
-    requires { EdgeFits (graph n a.now b.now lengths.now) e }
-    ensures { Downhill (graph n a.now b.now lengths.now) potential.now e result.s result.t result.long }
+pub fn downhill_edge(g: &Graph<'_>, potential: &[u32; 64], e: usize) -> Edge
+    requires { EdgeFits (graph_of g.now) e }
+    ensures { Downhill (graph_of g.now) potential.now e result.s result.t result.long }
 {
-    let x = a[e] as usize;
-    let y = b[e] as usize;
-    let long = lengths[e];
+    let x = g.a[e] as usize;
+    let y = g.b[e] as usize;
+    let long = g.lengths[e];
     if potential[y] < potential[x] {
         Edge { s: x, t: y, long }
     } else {
@@ -53,7 +47,7 @@ pub fn downhill_edge(
 fn tie_break(supply: u64, demand: u64) -> u64
     ensures { result < 2 ^ 34 }
 {
-    num::wrapping_sub_u64(num::wrapping_add_u64(1 << 33, supply), demand) % (1 << 34)
+    (1u64 << 33).wrapping_add(supply).wrapping_sub(demand) % (1 << 34)
 }
 
 // A potential in units of 2 ^ 36, and beside it the flow.
@@ -65,41 +59,27 @@ fn scaled(potential: u32, supply: u64, demand: u64) -> u64
 }
 
 // The scaled potential of every vertex.
-fn scale_potential(
-    n: usize,
-    supply: &[u64; 64],
-    demand: &[u64; 64],
-    potential: &[u32; 64],
-    out: &mut [u64; 64],
-)
-    requires { (n ≤ 64) × (length out.old ≡ 64) × EachBelow n (at potential.now) (2 ^ 24) }
-    ensures { AllScaled n potential.now out.new }
+fn scaled_potential(n: usize, basis: &Basis) -> [u64; 64]
+    requires { (n ≤ 64) × EachBelow n (at basis.now.potential) (2 ^ 24) }
+    ensures { AllScaled n basis.now.potential result }
 {
-    let mut x = 0;
-    while x < n {
-        out[x] = scaled(potential[x], supply[x], demand[x]);
-        x += 1;
+    let subtrees = &basis.subtrees;
+    let mut out = [0u64; 64];
+    for x in 0..n {
+        out[x] = scaled(basis.potential[x], subtrees.supply[x], subtrees.demand[x]);
     }
+    out
 }
 
 // The scaled violation of edge e: what the scaled potential changes along it beyond its scaled length.
-fn scaled_violation(
-    n: usize,
-    a: &[u32],
-    b: &[u32],
-    lengths: &[u32],
-    potential: &[u64; 64],
-    e: usize,
-) -> u64
-    requires { EdgeFits (graph n a.now b.now lengths.now) e }
-    ensures { result ≡ scaled_violation (graph n a.now b.now lengths.now) potential.now e }
+fn scaled_violation(g: &Graph<'_>, potential: &[u64; 64], e: usize) -> u64
+    requires { EdgeFits (graph_of g.now) e }
+    ensures { result ≡ scaled_violation (graph_of g.now) potential.now e }
 {
-    let x = a[e] as usize;
-    let y = b[e] as usize;
-    numbers::monus(
-        numbers::gap(potential[x], potential[y]),
-        UNIT * lengths[e] as u64,
-    )
+    let x = g.a[e] as usize;
+    let y = g.b[e] as usize;
+    let change = potential[x].abs_diff(potential[y]);
+    change.saturating_sub(UNIT * g.lengths[e] as u64)
 }
 
 // Where the block that begins at edge `first` of m ends.
@@ -107,61 +87,46 @@ fn block_end(first: usize, m: usize) -> usize
     requires { first ≤ 512 }
     ensures { result ≡ min (first + 64) m }
 {
-    if first + BLOCK < m { first + BLOCK } else { m }
+    m.min(first + BLOCK)
 }
 
-// The edge of a block with the largest scaled violation, or the number of edges if none there is violated.
-fn most_violated(
-    n: usize,
-    a: &[u32],
-    b: &[u32],
-    lengths: &[u32],
-    potential: &[u64; 64],
-    block: usize,
-) -> usize
-    requires { Accepted (graph n a.now b.now lengths.now) × (64 * block < length a.now) }
-    ensures { Largest (length a.now) (scaled_violation (graph n a.now b.now lengths.now) potential.now)
+// The edge of a block with the largest scaled violation, if one there is violated.
+fn most_violated(g: &Graph<'_>, potential: &[u64; 64], block: usize) -> Option<usize>
+    requires { Accepted (graph_of g.now) × (64 * block < length g.now.a.now) }
+    ensures { Found (length g.now.a.now) (scaled_violation (graph_of g.now) potential.now)
         half_unit (64 * block) (64 * block + 64) result }
 {
-    let mut found = a.len();
+    let mut found = None;
     let mut most = HALF;
-    let mut e = BLOCK * block;
-    let end = block_end(e, a.len());
-    while e < end {
-        let here = scaled_violation(n, a, b, lengths, potential, e);
+    let start = BLOCK * block;
+    let end = block_end(start, g.a.len());
+    for e in start..end {
+        let here = scaled_violation(g, potential, e);
         if most < here {
-            found = e;
+            found = Some(e);
             most = here;
         }
-        e += 1;
     }
     found
 }
 
-// The same of the first block that has a violated edge, of the blocks from `first` on that begin before edge `end`; or the number of edges if none has.
+// The same of the first block that has a violated edge, of the blocks from `first` to before `last`.
 fn most_violated_from(
-    n: usize,
-    a: &[u32],
-    b: &[u32],
-    lengths: &[u32],
+    g: &Graph<'_>,
     potential: &[u64; 64],
     first: usize,
-    end: usize,
-) -> usize
-    requires { Accepted (graph n a.now b.now lengths.now) × (64 * first < length a.now + 64)
-        × ((k : ℕ) → 64 * k < end → 64 * k < length a.now) }
-    ensures { Largest (length a.now) (scaled_violation (graph n a.now b.now lengths.now) potential.now)
-        half_unit (64 * first) end result }
+    last: usize,
+) -> Option<usize>
+    requires { Accepted (graph_of g.now) × ((k : ℕ) → k < last → 64 * k < length g.now.a.now) }
+    ensures { Found (length g.now.a.now) (scaled_violation (graph_of g.now) potential.now)
+        half_unit (64 * first) (64 * last) result }
 {
-    let mut block = first;
-    while BLOCK * block < end {
-        let e = most_violated(n, a, b, lengths, potential, block);
-        if e < a.len() {
-            return e;
+    for block in first..last {
+        if let Some(e) = most_violated(g, potential, block) {
+            return Some(e);
         }
-        block += 1;
     }
-    a.len()
+    None
 }
 
 // The block behind that of edge e.
@@ -173,26 +138,16 @@ pub fn next_block(e: usize) -> usize
 }
 
 // The next edge to enter, by Dantzig's rule in blocks: of the first block from `block` on, round all of them, that has a violated edge, the one that the potential
-// violates the most; or the number of edges if it violates none. Of equal violations the one with the most flow up from its higher end, less that from its lower
-// end, is taken.
-pub fn entering_edge(
-    n: usize,
-    a: &[u32],
-    b: &[u32],
-    lengths: &[u32],
-    supply: &[u64; 64],
-    demand: &[u64; 64],
-    potential: &[u32; 64],
-    block: usize,
-) -> usize
-    requires { Accepted (graph n a.now b.now lengths.now) × (64 * block < length a.now + 64) × EachBelow n (at potential.now) (2 ^ 24) }
-    ensures { MostViolated (graph n a.now b.now lengths.now) potential.now result }
+// violates the most; none if it violates none. Of equal violations the one with the most flow up from its higher end, less that from its lower end, is taken.
+pub fn entering_edge(g: &Graph<'_>, basis: &Basis, block: usize) -> Option<usize>
+    requires { Accepted (graph_of g.now) × (64 * block < length g.now.a.now + 64)
+        × EachBelow g.now.n (at basis.now.potential) (2 ^ 24) }
+    ensures { Entering (graph_of g.now) basis.now.potential result }
 {
-    let mut scaled = [0u64; 64];
-    scale_potential(n, supply, demand, potential, &mut scaled);
-    let e = most_violated_from(n, a, b, lengths, &scaled, block, a.len());
-    if e < a.len() {
-        return e;
+    let scaled = scaled_potential(g.n, basis);
+    let blocks = g.a.len().div_ceil(BLOCK);
+    match most_violated_from(g, &scaled, block, blocks) {
+        Some(e) => Some(e),
+        None => most_violated_from(g, &scaled, 0, block),
     }
-    most_violated_from(n, a, b, lengths, &scaled, 0, BLOCK * block)
 }

@@ -1,14 +1,16 @@
 // The ratio test: the edge that leaves the tree, where another enters.
 #![tactic(auto)]
 
-ghost use Rattle.std.specs.Prelude.{◌≡◌, ◌≤◌, ◌<◌};
+ghost use Rattle.std.specs.Prelude.{◌≡◌, ◌≤◌, ◌<◌, ◌↔◌, IsTrue};
 ghost use Rattle.arithmetic.specs.Table.{at};
 ghost use Rattle.arithmetic.specs.Steps.Mask.{bit};
+ghost use Rattle.tree_pivot.specs.Steps.Basis.{tables_of};
 ghost use Rattle.tree_pivot.specs.Steps.PathWalk.{CanWalk};
 ghost use Rattle.ratio_test.specs.Steps.CommonAncestor.{CanMeet, LowestCommonAncestor};
-ghost use Rattle.ratio_test.specs.Steps.Leaving.{FlowUp, LeastFlow, CanLeave, Exchanged};
+ghost use Rattle.ratio_test.specs.Steps.Leaving.{FlowUp, PathLeast, IsLess, CanLeave, Exchanged};
 
-use tree_pivot::Exchange;
+use pricing::Edge;
+use tree_pivot::{Basis, Exchange};
 
 // Whether y is in the subtree with the given mask.
 fn in_subtree(mask: u64, y: usize) -> bool
@@ -19,25 +21,16 @@ fn in_subtree(mask: u64, y: usize) -> bool
 }
 
 // The lowest common ancestor of s and t: climb from s until t is below.
-fn lowest_common_ancestor(
-    n: usize,
-    parents: &[u32; 64],
-    masks: &[u64; 64],
-    s: usize,
-    t: usize,
-) -> usize
-    requires { CanMeet n parents.now masks.now s t }
-    ensures { LowestCommonAncestor n (at parents.now) s t result }
+fn lowest_common_ancestor(n: usize, basis: &Basis, s: usize, t: usize) -> usize
+    requires { CanMeet n basis.now.parents basis.now.subtrees.masks s t }
+    ensures { LowestCommonAncestor n (at basis.now.parents) s t result }
 {
     let mut x = s;
-    while !in_subtree(masks[x], t) {
-        x = parents[x] as usize;
+    while !in_subtree(basis.subtrees.masks[x], t) {
+        x = basis.parents[x] as usize;
     }
     x
 }
-
-// A flow of this size stands for none.
-const NO_FLOW: u64 = 1 << 62;
 
 // A vertex of a path and the flow up from it.
 #[derive(Clone, Copy)]
@@ -46,14 +39,34 @@ struct PathFlow {
     flow: u64,
 }
 
-// The flow up from a vertex, if there is one.
-fn flow_up(more: u64, less: u64) -> u64
-    ensures { FlowUp more less result }
+// The flow up from x, if there is one.
+fn flow_up(x: usize, more: u64, less: u64) -> Option<PathFlow>
+    ensures { FlowUp x more less result }
 {
-    if less < more { more - less } else { NO_FLOW }
+    if less < more {
+        Some(PathFlow {
+            vertex: x,
+            flow: more - less,
+        })
+    } else {
+        None
+    }
 }
 
-// The least flow up from a vertex on the path from a vertex to one above it, the last excluded.
+// Whether a flow is less than another, where none is more than any.
+fn is_less(flow: Option<PathFlow>, other: Option<PathFlow>) -> bool
+    ensures { IsTrue result ↔ IsLess flow other }
+{
+    match flow {
+        None => false,
+        Some(f) => match other {
+            None => true,
+            Some(g) => f.flow < g.flow,
+        },
+    }
+}
+
+// The least flow up from a vertex on the path from a vertex to one above it, the last excluded, if there is one.
 fn least_flow(
     n: usize,
     parents: &[u32; 64],
@@ -61,58 +74,63 @@ fn least_flow(
     to: usize,
     more: &[u64; 64],
     less: &[u64; 64],
-) -> PathFlow
+) -> Option<PathFlow>
     requires { (n ≤ 64) × CanWalk n 0 (at parents.now) from to }
-    ensures { LeastFlow n (at parents.now) (at more.now) (at less.now) from to result.vertex result.flow }
+    ensures { PathLeast n (at parents.now) (at more.now) (at less.now) from to result }
 {
-    let mut vertex = from;
-    let mut flow = NO_FLOW;
+    let mut least: Option<PathFlow> = None;
     let mut x = from;
     while x != to {
-        let up = flow_up(more[x], less[x]);
-        if up < flow {
-            vertex = x;
-            flow = up;
+        let up = flow_up(x, more[x], less[x]);
+        if is_less(up, least) {
+            least = up;
         }
         x = parents[x] as usize;
     }
-    PathFlow { vertex, flow }
+    least
 }
 
-// The exchange where an edge from s to t, of length `long`, enters: the edge with the least flow against the cycle leaves.
-pub fn exchange(
-    n: usize,
-    s: usize,
-    t: usize,
-    long: u32,
-    parents: &[u32; 64],
-    supply: &[u64; 64],
-    demand: &[u64; 64],
-    masks: &[u64; 64],
-) -> Exchange
-    requires { CanLeave n parents.now supply.now demand.now masks.now s t }
-    ensures { (result.long ≡ long)
-        × Exchanged n (at parents.now) (at supply.now) (at demand.now) s t result.a result.b result.leaving result.ancestor result.rises }
+// The exchange where an edge enters: the edge with the least flow against the cycle leaves.
+pub fn exchange(n: usize, edge: Edge, basis: &Basis) -> Exchange
+    requires { let t = tables_of basis.now in CanLeave n t.parents t.supply t.demand t.masks edge.s edge.t }
+    ensures { (result.long ≡ edge.long)
+        × Exchanged n (at basis.now.parents) (at basis.now.subtrees.supply) (at basis.now.subtrees.demand)
+        edge.s edge.t result.a result.b result.leaving result.ancestor result.rises }
 {
-    let ancestor = lowest_common_ancestor(n, parents, masks, s, t);
-    let up = least_flow(n, parents, s, ancestor, supply, demand);
-    let down = least_flow(n, parents, t, ancestor, demand, supply);
-    if down.flow < up.flow {
+    let ancestor = lowest_common_ancestor(n, basis, edge.s, edge.t);
+    let subtrees = &basis.subtrees;
+    let up = least_flow(
+        n,
+        &basis.parents,
+        edge.s,
+        ancestor,
+        &subtrees.supply,
+        &subtrees.demand,
+    );
+    let down = least_flow(
+        n,
+        &basis.parents,
+        edge.t,
+        ancestor,
+        &subtrees.demand,
+        &subtrees.supply,
+    );
+    if is_less(down, up) {
         Exchange {
-            a: t,
-            b: s,
-            leaving: down.vertex,
+            a: edge.t,
+            b: edge.s,
+            leaving: down.unwrap().vertex,
             ancestor,
-            long,
+            long: edge.long,
             rises: true,
         }
     } else {
         Exchange {
-            a: s,
-            b: t,
-            leaving: up.vertex,
+            a: edge.s,
+            b: edge.t,
+            leaving: up.unwrap().vertex,
             ancestor,
-            long,
+            long: edge.long,
             rises: false,
         }
     }

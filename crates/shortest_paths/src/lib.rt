@@ -2,26 +2,25 @@
 // the tree that the search for a best tree starts from.
 #![tactic(auto)]
 
-ghost use Rattle.graph.specs.Graph.{graph};
+ghost use Rattle.graph.specs.Graph.{graph_of};
 ghost use Rattle.path_labels.specs.Steps.ShortestPathTree.{CanFindPaths, Searched};
+
+use graph::Graph;
 
 // The tree of shortest paths from `start`; says whether every vertex can be reached.
 pub fn shortest_path_tree(
-    n: usize,
-    a: &[u32],
-    b: &[u32],
-    lengths: &[u32],
+    g: &Graph<'_>,
     start: usize,
     parents: &mut [u32],
     edge: &mut [u32],
     labels: &mut [u32],
 ) -> bool
-    requires { CanFindPaths (graph n a.now b.now lengths.now) start parents.old edge.old labels.old }
-    ensures { Searched (graph n a.now b.now lengths.now) start result
+    requires { CanFindPaths (graph_of g.now) start parents.old edge.old labels.old }
+    ensures { Searched (graph_of g.now) start result
         parents.new edge.new labels.new }
 {
     path_labels::initialize(start, parents, labels);
-    path_labels::sweep_up(a, b, lengths, parents, edge, labels);
-    while path_labels::round(a, b, lengths, parents, edge, labels) {}
-    path_labels::all_reached(n, labels)
+    path_labels::sweep_up(g, parents, edge, labels);
+    while path_labels::round(g, parents, edge, labels) {}
+    path_labels::all_reached(g.n, labels)
 }

@@ -3,3 +3,4 @@ pub mod Scaled
 pub mod Lists
 pub mod Exact
 pub mod Again
+pub mod Tests

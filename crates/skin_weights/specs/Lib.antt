@@ -1,2 +1,3 @@
 pub mod Weight
 pub mod Lists
+pub mod Steps

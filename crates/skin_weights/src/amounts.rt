@@ -1,22 +1,17 @@
 // Weights turned into amounts: all of a list, or nothing of it.
-ghost use Rattle.std.specs.Prelude.{◌≡◌, ◌≤◌, true, length};
-ghost use Rattle.arithmetic.specs.Table.{written};
-ghost use Rattle.skin_weights.specs.Lists.{weights_ok, grains_ok, amounts_refusal, amounts_of, amounts_table};
+ghost use Rattle.std.specs.Prelude.{◌≡◌, true};
+ghost use Rattle.refusals.specs.Refusals.{number_of};
+ghost use Rattle.skin_weights.specs.Lists.{weights_ok, grains_ok, amounts_refusal, amounts_table};
 
-use crate::weight;
+use crate::filling::fill_by;
+use crate::weight::{amount_of, in_unit_interval, whole_grains};
+use refusals::Refusal;
 
 // check 15: every weight is from 0 to 1
 fn weights_ok(weights: &[f32]) -> bool
     ensures { result ≡ weights_ok weights.now }
 {
-    let mut i: usize = 0;
-    while i < weights.len() {
-        if !weight::in_unit_interval(weights[i]) {
-            return false;
-        }
-        i += 1;
-    }
-    true
+    weights.iter().all(|w| in_unit_interval(*w))
 }
 
 // check 16: every weight is a whole number of grains
@@ -24,53 +19,31 @@ fn grains_ok(weights: &[f32]) -> bool
     requires { weights_ok weights.now ≡ true }
     ensures { result ≡ grains_ok weights.now }
 {
-    let mut i: usize = 0;
-    while i < weights.len() {
-        if !weight::whole_grains(weights[i]) {
-            return false;
-        }
-        i += 1;
-    }
-    true
+    weights.iter().all(|w| whole_grains(*w))
 }
 
-// checks 2, 15 and 16
-fn amounts_refusal(weights: &[f32], amounts: &[u64]) -> u32
-    ensures { result ≡ amounts_refusal weights.now amounts.now }
+// checks 2, 15 and 16; apart from the way back's, which has no 16
+fn check_amounts(weights: &[f32], amounts: &[u64]) -> Result<(), Refusal>
+    ensures { number_of result ≡ amounts_refusal weights.now amounts.now }
 {
     if amounts.len() < weights.len() {
-        return 2;
+        return Err(Refusal::Tables);
     }
     if !weights_ok(weights) {
-        return 15;
+        return Err(Refusal::Weights);
     }
     if !grains_ok(weights) {
-        return 16;
+        return Err(Refusal::Grains);
     }
-    0
-}
-
-// Fills the first places with the amounts.
-fn fill_amounts(weights: &[f32], amounts: &mut [u64])
-    requires { (length weights.now ≤ length amounts.old) × (weights_ok weights.now ≡ true) × (grains_ok weights.now ≡ true) }
-    ensures { amounts.new ≡ written 0 (amounts_of weights.now) amounts.old }
-{
-    let mut i: usize = 0;
-    while i < weights.len() {
-        amounts[i] = weight::amount_of(weights[i]);
-        i += 1;
-    }
+    Ok(())
 }
 
 // Fills the first places of `amounts` with the amounts of the weights, in grains.
-pub fn to_amounts(weights: &[f32], amounts: &mut [u64]) -> u32
-    ensures { (result ≡ amounts_refusal weights.now amounts.old)
+pub fn to_amounts(weights: &[f32], amounts: &mut [u64]) -> Result<(), Refusal>
+    ensures { (number_of result ≡ amounts_refusal weights.now amounts.old)
         × (amounts.new ≡ amounts_table weights.now amounts.old) }
 {
-    let k = amounts_refusal(weights, amounts);
-    if k != 0 {
-        return k;
-    }
-    fill_amounts(weights, amounts);
-    k
+    check_amounts(weights, amounts)?;
+    fill_by(weights, amounts, amount_of);
+    Ok(())
 }

@@ -2,6 +2,7 @@
 #![tactic(auto)]
 
 pub mod amounts;
+mod filling;
 pub mod weight;
 pub mod weights;
 

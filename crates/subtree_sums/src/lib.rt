@@ -15,18 +15,6 @@ ghost use Rattle.subtree_sums.specs.Steps.Sums.{Light, Layered, Slopes, Heights,
 use tree_walks::walk::subtree_masks;
 use vertex_set::{lowest_vertex, shift_word};
 
-// the first n numbers of a list
-fn copy(n: usize, from: &[u64], to: &mut [u64])
-    requires { (n ≤ length from.now) × (n ≤ length to.old) }
-    ensures { Filled n (at from.now) to.old to.new }
-{
-    let mut x: usize = 0;
-    while x < n {
-        to[x] = from[x];
-        x += 1;
-    }
-}
-
 // by falling depth each vertex adds its two masses to those of its parent: so they become the masses below each vertex
 fn sum_below(n: usize, parents: &[u32], depths: &[u32], supply: &mut [u64], demand: &mut [u64])
     requires n_bound { (n ≤ 64) × ((n ≤ length parents.now) × Layered n (at parents.now) depths.now) }
@@ -35,18 +23,14 @@ fn sum_below(n: usize, parents: &[u32], depths: &[u32], supply: &mut [u64], dema
     ensures second { Filled n (subtotal (at parents.now) n (at demand.old)) demand.old demand.new }
 {
     let layers = vertex_set::layers(n, depths);
-    let mut d = n - 1;
-    let mut left = layers[d];
-    while 0 < d {
-        if left == 0 {
-            d -= 1;
-            left = layers[d];
-        } else {
+    for d in (1..n).rev() {
+        let mut left = layers[d];
+        while left != 0 {
             let x = lowest_vertex(n, left);
             let z = parents[x] as usize;
-            supply[z] = supply[z] + supply[x];
-            demand[z] = demand[z] + demand[x];
-            left = left - (1u64 << x);
+            supply[z] += supply[x];
+            demand[z] += demand[x];
+            left -= 1u64 << x;
         }
     }
 }
@@ -64,8 +48,7 @@ pub fn word_heights(
     ensures { (length result ≡ 64) × Heights n ground (at masks.now) (at rising.now) (at falling.now) (at result) }
 {
     let mut heights = [ground; 64];
-    let mut x: usize = 0;
-    while x < n {
+    for x in 0..n {
         shift_word(
             n,
             masks[x],
@@ -73,7 +56,6 @@ pub fn word_heights(
             rising[x] + falling[x],
             &mut heights,
         );
-        x += 1;
     }
     heights
 }
@@ -100,7 +82,7 @@ pub fn subtree_tables(
     ensures second { Filled n (subtotal (at parents.now) n (at nu.now)) demand.old demand.new }
 {
     subtree_masks(n, root, parents, depths, masks);
-    copy(n, mu, supply);
-    copy(n, nu, demand);
+    supply[..n].copy_from_slice(&mu[..n]);
+    demand[..n].copy_from_slice(&nu[..n]);
     sum_below(n, parents, depths, supply, demand);
 }

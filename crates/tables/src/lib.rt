@@ -18,7 +18,5 @@ pub fn fill_table(n: usize, value: u32, out: &mut [u32])
     ensures { out.new ≡ filled n (λ _ _. value) out.old }
 {
     let size = n * n;
-    for p in 0..size {
-        out[p] = value;
-    }
+    out[..size].fill(value);
 }

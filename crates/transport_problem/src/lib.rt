@@ -2,20 +2,31 @@
 #![tactic(auto)]
 
 ghost use Rattle.std.specs.Prelude.{◌≡◌, ◌≤◌, length};
-ghost use Rattle.graph.specs.Graph.{graph};
+ghost use Rattle.refusals.specs.Refusals.{number_of};
+ghost use Rattle.graph.specs.Graph.{graph_of};
 ghost use Rattle.transport_problem.specs.Checks.{measures_long};
 ghost use Rattle.transport_problem.specs.Steps.TransportProblem.{ProblemChecked};
 
-use measures::measures_refusal;
+use graph::Graph;
+use refusals::Refusal;
+
+// A graph and two paintings of it, as a caller lends them.
+#[derive(Clone, Copy)]
+pub struct Problem<'a> {
+    pub graph: Graph<'a>,
+    pub mu: &'a [u64],
+    pub nu: &'a [u64],
+}
 
 // both paintings are n long, and the caller's own tables are fine
-fn measures_fit(n: usize, mu: &[u64], nu: &[u64], tables: bool) -> bool
-    ensures { result ≡ measures_long n mu.now nu.now tables }
+#[tactic(auto, unfolding(crate::specs::Checks::measures_long))]
+fn measures_fit(problem: &Problem<'_>, tables: bool) -> bool
+    ensures { result ≡ measures_long problem.now.graph.n problem.now.mu.now problem.now.nu.now tables }
 {
-    if mu.len() != n {
+    if problem.mu.len() != problem.graph.n {
         return false;
     }
-    if nu.len() != n {
+    if problem.nu.len() != problem.graph.n {
         return false;
     }
     tables
@@ -24,24 +35,16 @@ fn measures_fit(n: usize, mu: &[u64], nu: &[u64], tables: bool) -> bool
 // Checks 1 to 7; `tables` says whether the caller's own tables pass check 2. Where nothing is refused, a first spanning tree stands in the two scratch
 // tables.
 pub fn check(
-    n: usize,
-    a: &[u32],
-    b: &[u32],
-    lengths: &[u32],
-    mu: &[u64],
-    nu: &[u64],
+    problem: &Problem<'_>,
     tables: bool,
     first: &mut [u32],
     edge: &mut [u32],
-) -> u32
+) -> Result<(), Refusal>
     requires { (64 ≤ length first.old) × (64 ≤ length edge.old) }
-    ensures { ProblemChecked (graph n a.now b.now lengths.now) mu.now nu.now tables result
+    ensures { ProblemChecked (graph_of problem.now.graph) problem.now.mu.now problem.now.nu.now tables (number_of result)
         first.new edge.new }
 {
-    let fits = measures_fit(n, mu, nu, tables);
-    let k = graph_checks::check(n, a, b, lengths, fits, first, edge);
-    if k != 0 {
-        return k;
-    }
-    measures_refusal(n, mu, nu)
+    let fits = measures_fit(problem, tables);
+    graph_checks::check(&problem.graph, fits, first, edge)?;
+    measures::check(problem.graph.n, problem.mu, problem.nu)
 }

@@ -12,9 +12,7 @@ fn first_steps(n: usize, parents: &[u32]) -> [u32; 64]
     ensures { (length result ≡ 64) × ((x : ℕ) → x < n → at result x ≡ at parents.now x) }
 {
     let mut ahead = [0u32; 64];
-    for x in 0..n {
-        ahead[x] = parents[x];
-    }
+    ahead[..n].copy_from_slice(&parents[..n]);
     ahead
 }
 
@@ -33,12 +31,7 @@ fn all_equal(n: usize, value: u32, table: &[u32; 64]) -> bool
     requires { n ≤ 64 }
     ensures { result ≡ all n (λ x. eqb (at table.now x) value) }
 {
-    for x in 0..n {
-        if table[x] != value {
-            return false;
-        }
-    }
-    true
+    table[..n].iter().all(|&entry| entry == value)
 }
 
 // whether every chain of parents reaches the root: n steps up from each vertex, or more, lead to it

@@ -3,12 +3,15 @@ ghost use Rattle.std.specs.Prelude.{◌≡◌, true, ◌||◌, ◌≤◌, ◌<�
 ghost use Rattle.arithmetic.specs.Bools.{all};
 ghost use Rattle.arithmetic.specs.Table.{at};
 ghost use Rattle.arithmetic.specs.Refusal.{refusal};
-ghost use Rattle.graph.specs.Graph.{graph};
+ghost use Rattle.refusals.specs.Refusals.{number_of};
+ghost use Rattle.graph.specs.Graph.{graph_of};
 ghost use Rattle.graph.specs.Checks.{lists_ok, edges_ok, marked};
 ghost use Rattle.tree_checks.specs.Checks.{parents_ok, tree_edges_ok, tree_checks};
 ghost use Rattle.tree_checks.specs.Steps.ParentEdges.{unmarked, Noted, NotedTo, Lengths};
 
 use crate::chains;
+use graph::Graph;
+use refusals::Refusal;
 
 // check 8
 pub fn parents_ok(n: usize, root: usize, parents: &[u32]) -> bool
@@ -21,8 +24,7 @@ pub fn parents_ok(n: usize, root: usize, parents: &[u32]) -> bool
     if parents[root] as usize != root {
         return false;
     }
-    let mut x: usize = 0;
-    while x < n {
+    for x in 0..n {
         let y = parents[x] as usize;
         if y >= n {
             return false;
@@ -32,7 +34,6 @@ pub fn parents_ok(n: usize, root: usize, parents: &[u32]) -> bool
                 return false;
             }
         }
-        x += 1;
     }
     true
 }
@@ -50,30 +51,20 @@ fn note(parents: &[u32], x: u32, y: u32, size: u32, above: &mut [u32], joined: &
 }
 
 // notes every edge between a vertex and its parent, in one pass over the edges
-fn note_edges(
-    n: usize,
-    a: &[u32],
-    b: &[u32],
-    lengths: &[u32],
-    parents: &[u32],
-    above: &mut [u32],
-    joined: &mut [bool],
-)
-    requires n_in_bounds { (n ≤ length parents.now) × ((n ≤ length above.old) × (n ≤ length joined.old)) }
-    requires lists { (length a.now ≤ 512) × ((length b.now ≡ length a.now) × (length lengths.now ≡ length a.now)) }
-    requires order { edges_ok (graph n a.now b.now lengths.now) ≡ true }
+fn note_edges(g: &Graph<'_>, parents: &[u32], above: &mut [u32], joined: &mut [bool])
+    requires n_in_bounds { (g.now.n ≤ length parents.now) × ((g.now.n ≤ length above.old) × (g.now.n ≤ length joined.old)) }
+    requires lists { (length g.now.a.now ≤ 512) × ((length g.now.b.now ≡ length g.now.a.now) × (length g.now.lengths.now ≡ length g.now.a.now)) }
+    requires order { edges_ok (graph_of g.now) ≡ true }
     requires fresh { unmarked joined.old ≡ true }
-    ensures { NotedTo (graph n a.now b.now lengths.now) (at parents.now)
-        (length a.now) above.old above.new joined.old joined.new }
+    ensures { NotedTo (graph_of g.now) (at parents.now)
+        (length g.now.a.now) above.old above.new joined.old joined.new }
 {
-    let mut e: usize = 0;
-    while e < a.len() {
-        let s = a[e];
-        let t = b[e];
-        let size = lengths[e];
+    for e in 0..g.a.len() {
+        let s = g.a[e];
+        let t = g.b[e];
+        let size = g.lengths[e];
         note(parents, s, t, size, above, joined);
         note(parents, t, s, size, above, joined);
-        e += 1;
     }
 }
 
@@ -82,63 +73,51 @@ fn all_joined(n: usize, root: usize, joined: &[bool]) -> bool
     requires { n ≤ length joined.now }
     ensures { result ≡ all n (λ x. eqb x root || marked joined.now x) }
 {
-    let mut x: usize = 0;
-    while x < n {
+    for x in 0..n {
         if x != root {
             if !joined[x] {
                 return false;
             }
         }
-        x += 1;
     }
     true
 }
 
 // check 9; fills in the length of the edge from each vertex but the root to its parent
-pub fn tree_edges_ok(
-    n: usize,
-    a: &[u32],
-    b: &[u32],
-    lengths: &[u32],
-    root: usize,
-    parents: &[u32],
-    above: &mut [u32],
-) -> bool
-    requires n_bound { (n ≤ 64) × ((n ≤ length parents.now) × (n ≤ length above.old)) }
-    requires graph { (lists_ok (graph n a.now b.now lengths.now) ≡ true) × (edges_ok (graph n a.now b.now lengths.now) ≡ true) }
-    ensures answer { result ≡ tree_edges_ok (graph n a.now b.now lengths.now) root (at parents.now) }
-    ensures table { result ≡ true → Lengths (graph n a.now b.now lengths.now) root (at parents.now)
+pub fn tree_edges_ok(g: &Graph<'_>, root: usize, parents: &[u32], above: &mut [u32]) -> bool
+    requires n_bound { (g.now.n ≤ 64) × ((g.now.n ≤ length parents.now) × (g.now.n ≤ length above.old)) }
+    requires graph { (lists_ok (graph_of g.now) ≡ true) × (edges_ok (graph_of g.now) ≡ true) }
+    ensures answer { result ≡ tree_edges_ok (graph_of g.now) root (at parents.now) }
+    ensures table { result ≡ true → Lengths (graph_of g.now) root (at parents.now)
         above.old above.new }
 {
     let mut joined = [false; 64];
-    note_edges(n, a, b, lengths, parents, above, &mut joined);
-    all_joined(n, root, &joined)
+    note_edges(g, parents, above, &mut joined);
+    all_joined(g.n, root, &joined)
 }
 
 // checks 8 to 10; where they accept the tree, `above` has the length of the edge from each vertex but the root to its parent
-pub fn tree_refusal(
-    n: usize,
-    a: &[u32],
-    b: &[u32],
-    lengths: &[u32],
+#[tactic(auto, unfolding(arithmetic::specs::Refusal::refusal, crate::specs::Checks::tree_checks))]
+pub fn check_tree(
+    g: &Graph<'_>,
     root: usize,
     parents: &[u32],
     above: &mut [u32],
-) -> u32
-    requires n_bound { (n ≤ 64) × ((n ≤ length parents.now) × (n ≤ length above.old)) }
-    requires graph { (lists_ok (graph n a.now b.now lengths.now) ≡ true) × (edges_ok (graph n a.now b.now lengths.now) ≡ true) }
-    ensures answer { result ≡ refusal (tree_checks (graph n a.now b.now lengths.now) root (at parents.now)) }
-    ensures table { result ≡ 0 → Lengths (graph n a.now b.now lengths.now) root (at parents.now)
+) -> Result<(), Refusal>
+    requires n_bound { (g.now.n ≤ 64) × ((g.now.n ≤ length parents.now) × (g.now.n ≤ length above.old)) }
+    requires graph { (lists_ok (graph_of g.now) ≡ true) × (edges_ok (graph_of g.now) ≡ true) }
+    ensures answer { number_of result ≡ refusal (tree_checks (graph_of g.now) root (at parents.now)) }
+    ensures table { number_of result ≡ 0 → Lengths (graph_of g.now) root (at parents.now)
         above.old above.new }
 {
-    if !parents_ok(n, root, parents) {
-        return 8;
+    if !parents_ok(g.n, root, parents) {
+        return Err(Refusal::Parents);
     }
-    if !tree_edges_ok(n, a, b, lengths, root, parents, above) {
-        return 9;
+    if !tree_edges_ok(g, root, parents, above) {
+        return Err(Refusal::TreeEdges);
     }
-    if !chains::chains_reach(n, root, parents) {
-        return 10;
+    if !chains::chains_reach(g.n, root, parents) {
+        return Err(Refusal::Chains);
     }
-    0
+    Ok(())
 }

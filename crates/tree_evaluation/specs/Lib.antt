@@ -1,2 +1,3 @@
 pub mod Evaluate
+pub mod Outcome
 pub mod Steps

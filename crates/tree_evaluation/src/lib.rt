@@ -1,33 +1,30 @@
 // Evaluating a given tree, document 01's weighing.
+// Tables of 64 entries stand for lists of n: a rule of the project, no heap.
 #![tactic(auto)]
 
 ghost use Rattle.std.specs.Prelude.{◌≡◌, List, ◌++◌, ℕ, ◌≤◌, length, drop};
 ghost use Rattle.arithmetic.specs.Table.{at, tab};
 ghost use Rattle.arithmetic.specs.Mask.{mask};
 ghost use Rattle.arithmetic.specs.Steps.Fill.{Filled};
+ghost use Rattle.refusals.specs.Refusals.{number_of};
 ghost use Rattle.rooted_tree.specs.Chain.{below, depth};
-ghost use Rattle.graph.specs.Graph.{graph};
+ghost use Rattle.graph.specs.Graph.{graph, graph_of};
 ghost use Rattle.given_tree.specs.Given.{given};
 ghost use Rattle.tree_evaluation.specs.Evaluate.{Evaluated};
+ghost use Rattle.tree_evaluation.specs.Outcome.{cost_of, moves_of};
 ghost use Rattle.tree_figures.specs.Figures.{imbalance, tree_cost};
 ghost use Rattle.tree_figures.specs.Steps.Tables.{LengthsTo};
 ghost use Rattle.tree_evaluation.specs.Steps.EvaluateTree.{Weighted, Evaluable, TreeEvaluated};
 
+use refusals::Refusal;
 use spanning_tree::tree::Tree;
 use subtree_sums::subtree_tables;
 use transport_plan::tree_plan;
+use transport_problem::Problem;
 
-// 0 or a refusal number, with the cost of the tree and the moves of its plan
+// the cost of a tree, and the moves of its plan
 #[derive(Clone, Copy)]
 pub struct Evaluation {
-    pub refusal: u32,
-    pub cost: u64,
-    pub moves: u32,
-}
-
-// the cost of an accepted tree, and the moves of its plan
-#[derive(Clone, Copy)]
-pub struct TreeValue {
     pub cost: u64,
     pub moves: u32,
 }
@@ -81,7 +78,7 @@ pub fn evaluate_tree(
     masks: &mut [u64],
     imbalance: &mut [i32],
     plan: &mut [u32],
-) -> TreeValue
+) -> Evaluation
     requires evaluable { Evaluable tree.n tree.root tree.parents above.now mu.now nu.now imbalance.old plan.old }
     requires room { tree.n ≤ length masks.old }
     ensures words { Filled tree.n (λ x. mask tree.n (λ y. below (at tree.parents) tree.n y x)) masks.old masks.new }
@@ -92,52 +89,40 @@ pub fn evaluate_tree(
     let mut depth = [0u32; 64];
     let cost = tree_flow(tree, above, mu, nu, &mut depth, masks, imbalance);
     let moves = tree_plan(tree, &depth, masks, mu, nu, plan);
-    TreeValue {
-        cost: cost,
-        moves: moves,
-    }
+    Evaluation { cost, moves }
 }
 
 // Evaluates a given tree: fills in its imbalances, its potential and its plan.
 pub fn evaluate(
-    n: usize,
-    a: &[u32],
-    b: &[u32],
-    lengths: &[u32],
-    mu: &[u64],
-    nu: &[u64],
+    problem: &Problem<'_>,
     root: usize,
     parents: &[u32],
     imbalance: &mut [i32],
     potential: &mut [i32],
     plan: &mut [u32],
-) -> Evaluation
-    ensures { Evaluated (graph n a.now b.now lengths.now)
-        (given mu.now nu.now root parents.now)
-        imbalance.old potential.old plan.old result.refusal result.cost result.moves
+) -> Result<Evaluation, Refusal>
+    ensures { Evaluated (graph_of problem.now.graph)
+        (given problem.now.mu.now problem.now.nu.now root parents.now)
+        imbalance.old potential.old plan.old (number_of result) (cost_of result) (moves_of result)
         imbalance.new potential.new plan.new }
 {
     let mut above = [0u32; 64];
     let mut first = [0u32; 64];
     let mut edge = [0u32; 64];
-    let room = given_tree::has_room(n, imbalance.len(), potential.len(), plan.len());
-    let k = given_tree::given_refusal(
-        n, a, b, lengths, mu, nu, root, parents, room, &mut above, &mut first, &mut edge,
+    let room = given_tree::has_room(
+        problem.graph.n,
+        imbalance.len(),
+        potential.len(),
+        plan.len(),
     );
-    if k != 0 {
-        return Evaluation {
-            refusal: k,
-            cost: 0,
-            moves: 0,
-        };
-    }
-    let tree = Tree::new(n, root, parents);
+    given_tree::check(
+        problem, root, parents, room, &mut above, &mut first, &mut edge,
+    )?;
+    let tree = Tree::new(problem.graph.n, root, parents);
     let mut masks = [0u64; 64];
-    let value = evaluate_tree(tree, &above, mu, nu, &mut masks, imbalance, plan);
+    let value = evaluate_tree(
+        tree, &above, problem.mu, problem.nu, &mut masks, imbalance, plan,
+    );
     tree_figures::write_potential(tree.n, tree.root, &masks, &above, imbalance, potential);
-    Evaluation {
-        refusal: 0,
-        cost: value.cost,
-        moves: value.moves,
-    }
+    Ok(value)
 }

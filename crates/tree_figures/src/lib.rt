@@ -1,5 +1,6 @@
 // The figures of a tree: imbalance, cost and potential, from tables. `above` holds the length from each vertex to its parent, `supply` and
 // `demand` the masses of mu and nu below it, `masks` the words of the vertices below each.
+// Tables of 64 entries stand for lists of n: a rule of the project, no heap. n stands beside them, since by each clause a table may be longer.
 #![tactic(auto)]
 
 ghost use Rattle.std.specs.Prelude.{◌≡◌, ◌++◌, ◌*◌, ◌^◌, ◌≤◌, ◌<◌, pos, length, drop, get_or};
@@ -22,19 +23,9 @@ pub fn write_imbalance(n: usize, supply: &[u64], demand: &[u64], out: &mut [i32]
     requires masses { EachBelow n (at supply.now) (2 ^ 31) × EachBelow n (at demand.now) (2 ^ 31) }
     ensures { out.new ≡ tab n (λ x. sub_ℕ (at supply.now x) (at demand.now x)) ++ drop n out.old }
 {
-    let mut x: usize = 0;
-    while x < n {
+    for x in 0..n {
         out[x] = difference(supply[x], demand[x]);
-        x += 1;
     }
-}
-
-// length × |imbalance|, but 0 for the root
-fn edge_cost(inner: bool, l: u32, a: u64, b: u64) -> u64
-    requires { (a < 2 ^ 31) × (b < 2 ^ 31) }
-    ensures { result ≡ pick inner (l * gap a b) }
-{
-    if inner { l as u64 * gap(a, b) } else { 0 }
 }
 
 // the tree cost
@@ -45,28 +36,12 @@ pub fn tree_cost(n: usize, root: usize, above: &[u32], supply: &[u64], demand: &
     ensures { result ≡ cost_from n root (at above.now) (at supply.now) (at demand.now) }
 {
     let mut cost: u64 = 0;
-    let mut x: usize = 0;
-    while x < n {
-        cost += edge_cost(x != root, above[x], supply[x], demand[x]);
-        x += 1;
+    for x in 0..n {
+        if x != root {
+            cost += above[x] as u64 * gap(supply[x], demand[x]);
+        }
     }
     cost
-}
-
-// the sign of the imbalance of x is +1: the potential rises to x
-fn rises(imbalance: &[i32], x: usize) -> bool
-    requires { (x < length imbalance.now) × (mag (get_or imbalance.now x (pos 0)) < 2 ^ 31) }
-    ensures { result ≡ rises (get_or imbalance.now x (pos 0)) }
-{
-    0 < imbalance[x]
-}
-
-// it is −1
-fn falls(imbalance: &[i32], x: usize) -> bool
-    requires { (x < length imbalance.now) × (mag (get_or imbalance.now x (pos 0)) < 2 ^ 31) }
-    ensures { result ≡ falls (get_or imbalance.now x (pos 0)) }
-{
-    imbalance[x] < 0
 }
 
 // what the potential rises by to each vertex from its parent, and what it falls by: the length between them or 0, and 0 at the root
@@ -83,11 +58,10 @@ fn write_slopes(
     ensures up { Filled n (slope root (at above.now) (λ x. rises (get_or imbalance.now x (pos 0)))) rising.old rising.new }
     ensures down { Filled n (slope root (at above.now) (λ x. falls (get_or imbalance.now x (pos 0)))) falling.old falling.new }
 {
-    let mut x: usize = 0;
-    while x < n {
-        rising[x] = pick(x != root, pick(rises(imbalance, x), above[x]));
-        falling[x] = pick(x != root, pick(falls(imbalance, x), above[x]));
-        x += 1;
+    for x in 0..n {
+        let length = pick(x != root, above[x]);
+        rising[x] = pick(0 < imbalance[x], length);
+        falling[x] = pick(imbalance[x] < 0, length);
     }
 }
 
@@ -114,9 +88,7 @@ pub fn write_potential(
     let mut falling = [0u32; 64];
     write_slopes(n, root, above, imbalance, &mut rising, &mut falling);
     let heights = word_heights(n, GROUND, masks, &rising, &falling);
-    let mut y: usize = 0;
-    while y < n {
+    for y in 0..n {
         out[y] = difference(heights[y] as u64, GROUND as u64);
-        y += 1;
     }
 }

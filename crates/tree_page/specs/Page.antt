@@ -1,6 +1,8 @@
 -- Document 02, W-213: the page of a given tree.
-use Rattle.std.specs.Prelude.{ℕ, ◌*◌, ◌≡◌, List, leb, ℤ, length}
+use Rattle.std.specs.Prelude.{ℕ, ◌*◌, ◌≡◌, List, leb, ℤ, length, Result}
 use Rattle.arithmetic.specs.Table.{at, result, written}
+use Rattle.refusals.specs.declared.Refusal.{Refusal}
+use Rattle.refusals.specs.Refusals.{or_zero}
 use Rattle.graph.specs.Graph.{Graph}
 use Rattle.given_tree.specs.Given.{Given, given_refusal}
 use Rattle.tree_figures.specs.Figures.{imbalance, potential}
@@ -27,3 +29,7 @@ pub record PageWritten (g : Graph) (w : Given) (buffer : List ℕ) (k filled : �
   pub refusal : k ≡ page_refusal g w buffer
   pub length_is : filled ≡ result k (96 * g.n)
   pub bytes_are : buffer' ≡ written k (tree_page g w) buffer
+
+-- "A refusal returns the number, all other results 0": what stands for the bytes filled
+abbrev pub filled_of : Result ℕ Refusal → ℕ
+filled_of = or_zero (λ (k : ℕ). k)

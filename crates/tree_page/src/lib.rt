@@ -1,27 +1,24 @@
 // The page of a given tree: a line for each vertex, indented by its depth, with its imbalance and its potential.
+// Tables of 64 entries stand for lists of n: a rule of the project, no heap.
 #![tactic(auto)]
 
 ghost use Rattle.std.specs.Prelude.{List, ℕ, ◌≤◌, length};
 ghost use Rattle.arithmetic.specs.Table.{at};
-ghost use Rattle.graph.specs.Graph.{graph};
+ghost use Rattle.refusals.specs.Refusals.{number_of};
+ghost use Rattle.graph.specs.Graph.{graph, graph_of};
 ghost use Rattle.given_tree.specs.Given.{given};
 ghost use Rattle.tree_figures.specs.Steps.Tables.{LengthsTo};
 ghost use Rattle.tree_evaluation.specs.Steps.EvaluateTree.{Weighted};
-ghost use Rattle.tree_page.specs.Page.{PageWritten};
+ghost use Rattle.tree_page.specs.Page.{PageWritten, filled_of};
 ghost use Rattle.tree_page.specs.Steps.Figures.{FiguresFound};
 
 use preorder::print_tree;
+use refusals::Refusal;
 use spanning_tree::tree::Tree;
+use transport_problem::Problem;
 
 // The bytes of a line.
 const LINE: usize = 96;
-
-// 0 or a refusal number, with the bytes filled
-#[derive(Clone, Copy)]
-pub struct Page {
-    pub refusal: u32,
-    pub length: usize,
-}
 
 // The imbalances and the potential of an accepted tree, on every graph whose lengths from a vertex to its parent are in `above`.
 fn write_figures(
@@ -43,40 +40,34 @@ fn write_figures(
     tree_figures::write_potential(tree.n, tree.root, &masks, above, imbalance, potential);
 }
 
-// Writes the page of a given tree from the start of the buffer on: checks 1 to 10, where a buffer that is too short is 2.
+// Writes the page of a given tree from the start of the buffer on, and returns the bytes filled: checks 1 to 10, where a buffer that is too short is 2.
 pub fn write_page(
-    n: usize,
-    a: &[u32],
-    b: &[u32],
-    lengths: &[u32],
-    mu: &[u64],
-    nu: &[u64],
+    problem: &Problem<'_>,
     root: usize,
     parents: &[u32],
     buffer: &mut [u8],
-) -> Page
-    ensures { PageWritten (graph n a.now b.now lengths.now)
-        (given mu.now nu.now root parents.now) buffer.old result.refusal result.length buffer.new }
+) -> Result<usize, Refusal>
+    ensures { PageWritten (graph_of problem.now.graph)
+        (given problem.now.mu.now problem.now.nu.now root parents.now) buffer.old (number_of result) (filled_of result) buffer.new }
 {
+    let n = problem.graph.n;
     let mut above = [0u32; 64];
     let mut first = [0u32; 64];
     let mut edge = [0u32; 64];
     let room = n <= buffer.len() / LINE;
-    let k = given_tree::given_refusal(
-        n, a, b, lengths, mu, nu, root, parents, room, &mut above, &mut first, &mut edge,
-    );
-    if k != 0 {
-        return Page {
-            refusal: k,
-            length: 0,
-        };
-    }
+    given_tree::check(
+        problem, root, parents, room, &mut above, &mut first, &mut edge,
+    )?;
     let mut imbalance = [0i32; 64];
     let mut potential = [0i32; 64];
     let tree = Tree::new(n, root, parents);
-    write_figures(tree, &above, mu, nu, &mut imbalance, &mut potential);
-    Page {
-        refusal: 0,
-        length: print_tree(n, root, parents, &imbalance, &potential, buffer),
-    }
+    write_figures(
+        tree,
+        &above,
+        problem.mu,
+        problem.nu,
+        &mut imbalance,
+        &mut potential,
+    );
+    Ok(print_tree(n, root, parents, &imbalance, &potential, buffer))
 }

@@ -4,15 +4,14 @@
 ghost use Rattle.std.specs.Prelude.{◌≡◌, ◌≤◌, ◌<◌, length};
 ghost use Rattle.arithmetic.specs.Steps.Product.{gap};
 ghost use Rattle.arithmetic.specs.Table.{at};
-ghost use Rattle.vertex_set.specs.Steps.Shift.{shifted, Room};
 ghost use Rattle.tree_pivot.specs.Steps.Pivot.{Cut};
 ghost use Rattle.tree_pivot.specs.Steps.PathReversal.{PathReversed};
 ghost use Rattle.tree_pivot.specs.Steps.PivotTables.{CanShift, CanComplement, PathShifted, PathComplemented, CanMove, TotalsMoved};
 ghost use Rattle.tree_pivot.specs.Steps.PivotPotential.{violation};
-ghost use Rattle.tree_pivot.specs.Steps.Basis.{tables, Some, Every};
+ghost use Rattle.tree_pivot.specs.Steps.Basis.{tables_of, Some, Every};
 ghost use Rattle.tree_pivot.specs.Steps.PivotBasis.{CommonAncestor, CanPivot, CheaperBasis};
 
-use vertex_set::shift_word;
+use vertex_set::{shift_word, shifted};
 
 // An exchange: the edge between a and b, of length `long`, enters the tree, and the edge above `leaving` leaves it. The subtree of `leaving`, in which a is and b is
 // not, hangs by a on b then; its potential rises or falls until the edge is tight. `ancestor` is above a and b.
@@ -26,123 +25,111 @@ pub struct Exchange {
     pub rises: bool,
 }
 
-// u, raised or lowered by d.
-fn shifted(rises: bool, d: u64, u: u64) -> u64
-    requires { Room 64 rises d u }
-    ensures { result ≡ shifted rises d u }
-{
-    if rises { u + d } else { u - d }
-}
-
 // What is below a vertex: the masses sent and taken there, and the mask of its subtree.
 #[derive(Clone, Copy)]
-struct Subtotals {
+struct Subtree {
     supply: u64,
     demand: u64,
     mask: u64,
 }
 
-// The subtotals of y.
-fn subtotals_of(y: usize, supply: &[u64; 64], demand: &[u64; 64], masks: &[u64; 64]) -> Subtotals
-    requires { y < 64 }
-    ensures { (result.supply ≡ at supply.now y) × ((result.demand ≡ at demand.now y) × (result.mask ≡ at masks.now y)) }
-{
-    Subtotals {
-        supply: supply[y],
-        demand: demand[y],
-        mask: masks[y],
-    }
+// The same of every vertex. Three tables, and not one of Subtree: the laws of a pivot speak of a table of numbers. Of 64 places: no heap, fixed memory.
+#[derive(Drop)]
+pub struct Subtrees {
+    pub supply: [u64; 64],
+    pub demand: [u64; 64],
+    pub masks: [u64; 64],
 }
 
-// Raises or lowers by d the subtotals of each vertex from `from` up to `stop`, and not those of `stop`.
-fn shift_path(
-    n: usize,
-    root: usize,
-    from: usize,
-    stop: usize,
-    rises: bool,
-    d: Subtotals,
-    parents: &[u32; 64],
-    supply: &mut [u64; 64],
-    demand: &mut [u64; 64],
-    masks: &mut [u64; 64],
-)
-    requires { CanShift n root parents.now from stop rises d.supply supply.old
-        × (CanShift n root parents.now from stop rises d.demand demand.old × CanShift n root parents.now from stop rises d.mask masks.old) }
-    ensures { PathShifted n parents.now from stop rises d.supply supply.old supply.new
-        × (PathShifted n parents.now from stop rises d.demand demand.old demand.new
-        × PathShifted n parents.now from stop rises d.mask masks.old masks.new) }
-{
-    let mut y = from;
-    while y != stop {
-        supply[y] = shifted(rises, d.supply, supply[y]);
-        demand[y] = shifted(rises, d.demand, demand[y]);
-        masks[y] = shifted(rises, d.mask, masks[y]);
-        y = parents[y] as usize;
+impl Subtrees {
+    // What is below y.
+    fn of_vertex(&self, y: usize) -> Subtree
+        requires { y < 64 }
+        ensures { (result.supply ≡ at self.now.supply y) × ((result.demand ≡ at self.now.demand y) × (result.mask ≡ at self.now.masks y)) }
+    {
+        Subtree {
+            supply: self.supply[y],
+            demand: self.demand[y],
+            mask: self.masks[y],
+        }
     }
-}
 
-// Reverses the subtotals of the path from a up to `stop`: what is now below a vertex is all but what was below the one before it.
-fn complement_path(
-    n: usize,
-    root: usize,
-    a: usize,
-    stop: usize,
-    total: Subtotals,
-    parents: &[u32; 64],
-    supply: &mut [u64; 64],
-    demand: &mut [u64; 64],
-    masks: &mut [u64; 64],
-)
-    requires { CanComplement n root parents.now a stop total.supply supply.old
-        × (CanComplement n root parents.now a stop total.demand demand.old × CanComplement n root parents.now a stop total.mask masks.old) }
-    ensures { PathComplemented n parents.now a stop total.supply supply.old supply.new
-        × (PathComplemented n parents.now a stop total.demand demand.old demand.new
-        × PathComplemented n parents.now a stop total.mask masks.old masks.new) }
-{
-    let mut y = a;
-    let mut before = Subtotals {
-        supply: 0,
-        demand: 0,
-        mask: 0,
-    };
-    while y != stop {
-        let own = subtotals_of(y, supply, demand, masks);
-        supply[y] = total.supply - before.supply;
-        demand[y] = total.demand - before.demand;
-        masks[y] = total.mask - before.mask;
-        before = own;
-        y = parents[y] as usize;
+    // Raises or lowers by d what is below each vertex from `from` up to `stop`, and not below `stop`.
+    fn shift_path(
+        &mut self,
+        n: usize,
+        root: usize,
+        parents: &[u32; 64],
+        from: usize,
+        stop: usize,
+        rises: bool,
+        d: Subtree,
+    )
+        requires { CanShift n root parents.now from stop rises d.supply self.old.supply
+            × (CanShift n root parents.now from stop rises d.demand self.old.demand
+            × CanShift n root parents.now from stop rises d.mask self.old.masks) }
+        ensures { PathShifted n parents.now from stop rises d.supply self.old.supply self.new.supply
+            × (PathShifted n parents.now from stop rises d.demand self.old.demand self.new.demand
+            × PathShifted n parents.now from stop rises d.mask self.old.masks self.new.masks) }
+    {
+        let mut y = from;
+        while y != stop {
+            self.supply[y] = shifted(rises, d.supply, self.supply[y]);
+            self.demand[y] = shifted(rises, d.demand, self.demand[y]);
+            self.masks[y] = shifted(rises, d.mask, self.masks[y]);
+            y = parents[y] as usize;
+        }
     }
-}
 
-// Moves what is in the cut subtree, in the tables of subtotals, to where a hangs on b.
-fn move_subtotals(
-    n: usize,
-    root: usize,
-    x: Exchange,
-    parents: &[u32; 64],
-    supply: &mut [u64; 64],
-    demand: &mut [u64; 64],
-    masks: &mut [u64; 64],
-)
-    requires { CanMove n root parents.now x.a x.b x.leaving x.ancestor supply.old
-        × (CanMove n root parents.now x.a x.b x.leaving x.ancestor demand.old
-        × CanMove n root parents.now x.a x.b x.leaving x.ancestor masks.old) }
-    ensures { TotalsMoved n root parents.now x.a x.b x.leaving supply.old supply.new
-        × (TotalsMoved n root parents.now x.a x.b x.leaving demand.old demand.new
-        × TotalsMoved n root parents.now x.a x.b x.leaving masks.old masks.new) }
-{
-    let c = x.leaving;
-    let total = subtotals_of(c, supply, demand, masks);
-    let over = parents[c] as usize;
-    shift_path(
-        n, root, over, x.ancestor, false, total, parents, supply, demand, masks,
-    );
-    shift_path(
-        n, root, x.b, x.ancestor, true, total, parents, supply, demand, masks,
-    );
-    complement_path(n, root, x.a, over, total, parents, supply, demand, masks);
+    // Reverses the path from a up to `stop`: what is now below a vertex is all but what was below the one before it.
+    fn complement_path(
+        &mut self,
+        n: usize,
+        root: usize,
+        parents: &[u32; 64],
+        a: usize,
+        stop: usize,
+        total: Subtree,
+    )
+        requires { CanComplement n root parents.now a stop total.supply self.old.supply
+            × (CanComplement n root parents.now a stop total.demand self.old.demand
+            × CanComplement n root parents.now a stop total.mask self.old.masks) }
+        ensures { PathComplemented n parents.now a stop total.supply self.old.supply self.new.supply
+            × (PathComplemented n parents.now a stop total.demand self.old.demand self.new.demand
+            × PathComplemented n parents.now a stop total.mask self.old.masks self.new.masks) }
+    {
+        let mut y = a;
+        let mut before = Subtree {
+            supply: 0,
+            demand: 0,
+            mask: 0,
+        };
+        while y != stop {
+            let own = self.of_vertex(y);
+            self.supply[y] = total.supply - before.supply;
+            self.demand[y] = total.demand - before.demand;
+            self.masks[y] = total.mask - before.mask;
+            before = own;
+            y = parents[y] as usize;
+        }
+    }
+
+    // Moves what is in the cut subtree to where a hangs on b.
+    fn hang(&mut self, n: usize, root: usize, parents: &[u32; 64], x: Exchange)
+        requires { CanMove n root parents.now x.a x.b x.leaving x.ancestor self.old.supply
+            × (CanMove n root parents.now x.a x.b x.leaving x.ancestor self.old.demand
+            × CanMove n root parents.now x.a x.b x.leaving x.ancestor self.old.masks) }
+        ensures { TotalsMoved n root parents.now x.a x.b x.leaving self.old.supply self.new.supply
+            × (TotalsMoved n root parents.now x.a x.b x.leaving self.old.demand self.new.demand
+            × TotalsMoved n root parents.now x.a x.b x.leaving self.old.masks self.new.masks) }
+    {
+        let c = x.leaving;
+        let total = self.of_vertex(c);
+        let over = parents[c] as usize;
+        self.shift_path(n, root, parents, over, x.ancestor, false, total);
+        self.shift_path(n, root, parents, x.b, x.ancestor, true, total);
+        self.complement_path(n, root, parents, x.a, over, total);
+    }
 }
 
 // Hangs the cut subtree by a on b: each vertex on the path from a up to the leaving one gets the vertex before it for its parent, with the length of that edge.
@@ -173,34 +160,31 @@ fn violation(u: u32, w: u32, long: u32) -> u32
     requires { long ≤ gap u w }
     ensures { result ≡ violation u w long }
 {
-    numbers::gap(u as u64, w as u64) as u32 - long
+    u.abs_diff(w) - long
 }
 
-// The pivot: turns a basis into a cheaper one.
-pub fn pivot(
-    n: usize,
-    x: Exchange,
-    parents: &mut [u32; 64],
-    above: &mut [u32; 64],
-    supply: &mut [u64; 64],
-    demand: &mut [u64; 64],
-    masks: &mut [u64; 64],
-    potential: &mut [u32; 64],
-)
-    requires { Some n (λ g m v.
-        CanPivot g m v x.a x.b x.leaving x.long x.rises (tables parents.old above.old supply.old demand.old masks.old potential.old)
-        × CommonAncestor n (at parents.old) x.a x.b x.ancestor) }
-    ensures { Every n (λ g m v.
-        CanPivot g m v x.a x.b x.leaving x.long x.rises
-        (tables parents.old above.old supply.old demand.old masks.old potential.old)
-        → CheaperBasis g m v
-        (tables parents.old above.old supply.old demand.old masks.old potential.old)
-        (tables parents.new above.new supply.new demand.new masks.new potential.new)) }
-{
-    move_subtotals(n, 0, x, parents, supply, demand, masks);
-    reverse_path(n, 0, x, parents, above);
-    let a = x.a;
-    let b = x.b;
-    let d = violation(potential[a], potential[b], x.long);
-    shift_word(n, masks[a], x.rises, d, potential);
+// A basis: a spanning tree with root 0, by the parent of each vertex and the length of the edge above it; what is below each vertex; and the potential of each.
+#[derive(Drop)]
+pub struct Basis {
+    pub parents: [u32; 64],
+    pub above: [u32; 64],
+    pub subtrees: Subtrees,
+    pub potential: [u32; 64],
+}
+
+impl Basis {
+    // The pivot: the basis becomes a cheaper one.
+    pub fn pivot(&mut self, n: usize, x: Exchange)
+        requires { Some n (λ g m v.
+            CanPivot g m v x.a x.b x.leaving x.long x.rises (tables_of self.old)
+            × CommonAncestor n (at self.old.parents) x.a x.b x.ancestor) }
+        ensures { Every n (λ g m v.
+            CanPivot g m v x.a x.b x.leaving x.long x.rises (tables_of self.old)
+            → CheaperBasis g m v (tables_of self.old) (tables_of self.new)) }
+    {
+        self.subtrees.hang(n, 0, &self.parents, x);
+        reverse_path(n, 0, x, &mut self.parents, &mut self.above);
+        let d = violation(self.potential[x.a], self.potential[x.b], x.long);
+        shift_word(n, self.subtrees.masks[x.a], x.rises, d, &mut self.potential);
+    }
 }

@@ -13,7 +13,7 @@ fn mark(x: usize, y: usize, masks: &mut [u64])
     requires { (x < length masks.old) × (y < 64) }
     ensures { masks.new ≡ set masks.old x (bit_or (at masks.old x) (2 ^ y)) }
 {
-    masks[x] = masks[x] | (1u64 << y);
+    masks[x] |= 1u64 << y;
 }
 
 // climbs from y to the root: sets y's bit in the mask of each x that y is below, and changes no other bit. Returns the steps: the depth of y.
@@ -35,18 +35,6 @@ pub fn walk_up(n: usize, root: usize, parents: &[u32], y: usize, masks: &mut [u6
     }
 }
 
-// zeros in the first n places
-fn clear(n: usize, out: &mut [u64])
-    requires { n ≤ length out.old }
-    ensures { Filled n (λ _. 0) out.old out.new }
-{
-    let mut x: usize = 0;
-    while x < n {
-        out[x] = 0;
-        x += 1;
-    }
-}
-
 // the depth of each vertex and its mask, the vertices below it, by one climb from each vertex
 pub fn subtree_masks(n: usize, root: usize, parents: &[u32], depths: &mut [u32], masks: &mut [u64])
     requires n_bound { (n ≤ 64) × ((n ≤ length parents.now) × ((n ≤ length depths.old) × (n ≤ length masks.old))) }
@@ -54,10 +42,8 @@ pub fn subtree_masks(n: usize, root: usize, parents: &[u32], depths: &mut [u32],
     ensures steps { Filled n (depth (at parents.now) root n) depths.old depths.new }
     ensures bits { Filled n (λ x. mask n (λ y. below (at parents.now) n y x)) masks.old masks.new }
 {
-    clear(n, masks);
-    let mut y: usize = 0;
-    while y < n {
+    masks[..n].fill(0);
+    for y in 0..n {
         depths[y] = walk_up(n, root, parents, y, masks);
-        y += 1;
     }
 }

@@ -1,13 +1,18 @@
 // Sets of vertices, as words: bit x stands for vertex x.
 #![tactic(auto)]
 
-ghost use Rattle.std.specs.Prelude.{◌≡◌, ℕ, ◌-◌, ◌^◌, ◌≤◌, ◌<◌, eqb};
+ghost use Rattle.std.specs.Prelude.{◌≡◌, ℕ, ◌-◌, ◌^◌, ◌≤◌, ◌<◌, eqb, MatchBool};
 ghost use Rattle.arithmetic.specs.Table.{at};
 ghost use Rattle.arithmetic.specs.Steps.Mask.{bit};
 ghost use Rattle.arithmetic.specs.Mask.{mask};
 ghost use Rattle.vertex_set.specs.Lowest.{lowest};
 ghost use Rattle.vertex_set.specs.Steps.Sets.{Depths};
-ghost use Rattle.vertex_set.specs.Steps.Shift.{shifted, Room, CanShiftWord, WordShifted};
+ghost use Rattle.vertex_set.specs.Steps.Shift.{CanShiftWord, WordShifted};
+
+pub mod words;
+
+use std::ops::{Add, Sub};
+pub use words::word_of;
 
 // The lowest vertex of a word that has one.
 pub fn lowest_vertex(n: usize, word: u64) -> usize
@@ -25,10 +30,11 @@ pub fn without_lowest(n: usize, word: u64) -> u64
     word & (word - 1)
 }
 
-// u, raised or lowered by d.
-fn shifted(rises: bool, d: u32, u: u32) -> u32
-    requires { Room 32 rises d u }
-    ensures { result ≡ shifted rises d u }
+// u, raised or lowered by d. A flag in place of a closure: which of the two it is turns out at run time, and each is one instruction.
+#[inline]
+pub fn shifted<T: Add<T, Output = T> + Sub<T, Output = T>>(rises: bool, d: T, u: T) -> T
+    requires { MatchBool rises (T.can_add u d) (T.can_sub u d) }
+    ensures { MatchBool rises (T.add_gives u d result) (T.sub_gives u d result) }
 {
     if rises { u + d } else { u - d }
 }

@@ -1,7 +1,7 @@
 -- A number in base ten by its last digit; and how many digits it has.
 use mathlib.Core.Path.{◌≡◌, sym, ap, ◌∙◌}
 use mathlib.Core.List.{List, [], ◌∷◌, ◌++◌}
-use Prim.Native.Nat.{ℕ, zero, suc, ◌+◌, ◌/◌, ◌%◌, ◌^◌, ◌≤◌, ◌<◌}
+use Prim.Native.Nat.{ℕ, zero, suc, ◌+◌, ◌/◌, ◌%◌, ◌*◌, ◌^◌, ◌≤◌, ◌<◌}
 use native.Mathlib.Nat.{pow-suc}
 use native.Mathlib.Omega.{arith}
 use lib.ListN.{length, length-append}
@@ -50,14 +50,28 @@ length_digits (suc k) (suc m) x h =
 pub length-decimal : (m x : ℕ) → x < 10 ^ suc m → length (decimal x) ≤ suc m
 length-decimal = length_digits 20
 
--- ---- counting the digits, from the last one on: `width` are counted, and those of x are left but for one that every number has
-pub width_more : (width x whole : ℕ) → x < 2 ^ 64 → 9 < x → width + length (decimal x) ≡ whole → width + 1 + length (decimal (x / 10)) ≡ whole
-width_more width x whole h g e =
-    let f = ap length (decimal_step x h (omega arith)) in
-    omega (arith, length-append (decimal (x / 10)) ((48 + x % 10) ∷ []))
+-- and one from 10 ^ m on has more than m
+ten_pos : (m : ℕ) → 0 < 10 ^ m
+ten_pos zero = omega arith
+ten_pos (suc m) = omega (arith, pow-suc 10 m, ten_pos m)
 
-pub width_end : (width x whole : ℕ) → x ≤ 9 → width + length (decimal x) ≡ whole + 1 → width ≡ whole
-width_end width x whole h e = let f = ap length (decimal_last x (omega arith)) in omega arith
+digits_least : (k m x : ℕ) → m < k → 10 ^ m ≤ x → m < length (digits k x)
+unfolding digits
+digits_least zero m x g h = absurd (omega arith)
+digits_least (suc k) zero x g h =
+    case< x 10
+    (λ l. rw (lt-ltb x 10 l) (omega arith))
+    (λ l. rw (le-ltb x 10 l, length-append) (omega arith))
+digits_least (suc k) (suc m) x g h =
+    let p = pow-suc 10 m in
+    let l : 10 ≤ x = omega (arith, ten_pos m) in
+    rw (le-ltb x 10 l, length-append) (omega (arith, digits_least k m (x / 10) (omega arith) (omega arith)))
+
+pub width_is : (m x : ℕ) → m < 20 → 10 ^ m ≤ x → x < 10 * 10 ^ m → m + 1 ≡ length (decimal x)
+width_is m x g h l = omega (arith, digits_least 20 m x g h, length-decimal m x (omega (arith, pow-suc 10 m)))
+
+pub width_none : (x : ℕ) → x ≡ 0 → 1 ≡ length (decimal x)
+width_none x e = rw e (sym (ap length (decimal_last 0 (omega arith))))
 
 module _ (from x : ℕ) (l : List ℕ) where
   pub last_room : x < 10 → from + length (decimal x) ≤ length l → from < length l

@@ -1,14 +1,14 @@
--- One text behind another in a lent buffer; a byte, and a word byte by byte.
+-- One text behind another in a lent buffer; a byte, and a word.
 use mathlib.Core.Path.{◌≡◌, refl, ap, ◌∙◌}
-use mathlib.Core.List.{List, [], ◌∷◌, ◌++◌}
-use Prim.Native.Nat.{ℕ, ◌+◌, ◌≤◌, ◌<◌}
-use native.Mathlib.Numerals.{add-one}
+use mathlib.Core.List.{List, [], ◌∷◌, ◌++◌, append_assoc}
+use Prim.Native.Nat.{ℕ, ◌+◌, ◌-◌, ◌≤◌, ◌<◌}
 use native.Mathlib.Omega.{arith}
-use lib.ListN.{length, get_or, take, set, length-append}
-use lib.Seq.{length-take-le, take-suc, take-length}
+use lib.ListN.{length, set, length-append}
+use lib.Seq.{drop-drop}
+use borrow.Rule.Slice.PartMut.{put_mid}
 use Rattle.arithmetic.specs.Table.{written}
-use Rattle.little_endian.proofs.Laws.Buffer.{Placing}
-use Rattle.little_endian.proofs.Laws.Placed.{length-placed, placed_none, placed_one, placed_front, placed_then, placing_none, placing_more, placing_end}
+use Rattle.little_endian.specs.Steps.Buffer.{placed}
+use Rattle.little_endian.proofs.Laws.Placed.{length-placed, placed_none, placed_one, placed_front, placed_then}
 use Rattle.decimal_text.specs.Steps.Wrote.{Wrote}
 
 pub wrote_none : (from : ℕ) (l : List ℕ) → Wrote from [] l l from
@@ -39,15 +39,9 @@ wrote_front {r} {s} {l} {o} w = (w.out_is ∙ placed_front s l, omega (arith, w.
 pub byte_wrote : (b from : ℕ) (l : List ℕ) → from < length l → Wrote from (b ∷ []) l (set l from b) (from + 1)
 byte_wrote b from l h = record { next_is = refl; out_is = placed_one from b l h }
 
-module _ {from : ℕ} (s : List ℕ) {lent : List ℕ} where
-  pub word_none : Placing from (length s) (λ i. take i s) lent 0 lent
-  word_none = placing_none refl
-
-  pub word_more : {i : ℕ} {m : List ℕ} → Placing from (length s) (λ i. take i s) lent i m → i < length s → from + length s ≤ length lent
-      → Placing from (length s) (λ i. take i s) lent (i + 1) (set m (from + i) (get_or s i 0))
-  word_more {i} {m} w h room =
-      placing_more (get_or s i 0 ∷ []) w h (rw (add-one i) (take-suc s i 0 h)) (rw (length-take-le i s (omega arith)) refl) (omega arith)
-      (placed_one (from + i) (get_or s i 0) m (omega (arith, w.long)))
-
-  pub word_end : {i : ℕ} {m : List ℕ} → Placing from (length s) (λ i. take i s) lent i m → length s ≤ i → Wrote from s lent m (from + i)
-  word_end w h = record { next_is = omega (arith, w.within); out_is = placing_end w h ∙ rw (take-length s) }
+-- a word was copied into its part of the buffer
+pub word_wrote : (from : ℕ) (s l : List ℕ) → Wrote from s l (put_mid from (from + length s - from) l s) (from + length s)
+unfolding placed
+word_wrote from s l =
+    let e : from + length s - from ≡ length s = omega arith in
+    record { next_is = refl; out_is = rw (e, drop-drop, append_assoc) }

@@ -3,11 +3,10 @@ use Prim.Native.Nat.{ℕ, ◌+◌, ◌-◌, ◌*◌, ◌/◌, ◌%◌, ◌^◌, 
 use mathlib.Core.Path.{◌≡◌, refl, sym, ap, ◌∙◌}
 use mathlib.Core.Bool.{Bool, true, false, cond, ◌||◌, or-false}
 use mathlib.Core.List.{List}
-use native.Mathlib.Nat.{zero-div}
 use native.Mathlib.Omega.{arith}
 use lib.Bits.{bit_or}
 use lib.Dec.{eqb, ltb}
-use lib.ListN.{length, set, length-set}
+use lib.ListN.{length, length-set}
 use lib.Seq.{get_or-set_same, get_or-set_other}
 use borrow.Author.Tests.{ne_eqb, lt-ltb, le-ltb, ltb-true, ltb-false}
 use Rattle.arithmetic.specs.Steps.Mask.{bit}
@@ -19,9 +18,8 @@ use Rattle.vertex_set.proofs.Laws.Words.{or_vertex, or-bit}
 use Rattle.vertex_set.proofs.Laws.Without.{Without, without_first}
 use Rattle.forward_star.specs.Steps.Linked.{tail, latest}
 use Rattle.forward_star.proofs.Laws.Linked.{tail_even, tail_odd, latest_most, latest_starts, latest_last}
-use Rattle.path_labels.specs.Steps.Weight.{unreached}
 use Rattle.path_labels.specs.Steps.Labels.{put}
-use Rattle.dijkstra.specs.Steps.Relaxing.{IsWord, NearestOf, Lowered, CanRelax, Relaxed}
+use Rattle.dijkstra.specs.Steps.Relaxing.{IsWord, Lowered, CanRelax, Relaxed}
 
 -- ---- a vertex of a word with the least label
 
@@ -53,9 +51,6 @@ module _ {w : ℕ} {label : ℕ → ℕ} where
     abbrev Taken : ℕ → Type 0
     Taken left' = left' ≡ left - 2 ^ lowest (bit left) 64 0
 
-    pub nearer_less : (left' : ℕ) → Taken left' → left' < left
-    nearer_less left' q = rw (q, ← first.0) (omega (arith, nearer-out.some, nearer-out.part))
-
     -- y has been looked at: x' is the nearer of the two
     pub nearer_more : (left' : ℕ) → Taken left' → (x' : ℕ) → x' ≡ cond (ltb (label y) (label x)) y x → Nearer w label left' x'
     nearer_more left' q x' e = rw (q, ← first.0) (record {
@@ -74,16 +69,6 @@ module _ {w : ℕ} {label : ℕ → ℕ} where
             case (ltb (label y) (label x))
             (λ t. let h : label y < label x = ltb-true _ _ t in rw (e, t) (omega arith, omega arith))
             (λ t. let h : label x ≤ label y = ltb-false _ _ t in rw (e, t) (h, omega arith))
-
-  pub nearer-end : {left x : ℕ} → Nearer w label left x → left ≡ 0 → NearestOf w label x
-  nearer-end k e = record { inside = k.inside; has = k.has; least = λ v l h. k.least v l h (rw (e, zero-div (2 ^ v)) refl) }
-
--- ---- one edge
-pub lowered_no : (y near w : ℕ) (labels : List ℕ) → at labels y ≤ near → Lowered y near w labels w labels
-lowered_no y near w labels h = let f = le-ltb near (at labels y) h in record { label = rw f; word = rw f }
-
-pub lowered_yes : (y near w : ℕ) (labels : List ℕ) (w' : ℕ) → near < at labels y → w' ≡ bit_or w (2 ^ y) → Lowered y near w labels w' (set labels y near)
-lowered_yes y near w labels w' h e = let t = lt-ltb near (at labels y) h in record { label = rw t; word = rw t e }
 
 -- the frontier grows by what falls from p to q, and then by what falls from q to r
 pub grown_on : (p q r : ℕ) (b : Bool) {c : Bool} → q ≤ p → r ≤ q → c ≡ b || ltb q p → c || ltb r q ≡ b || ltb r p
@@ -245,14 +230,9 @@ pub record Walked (a b lengths last before : List ℕ) (x near w : ℕ) (labels 
   pub relaxed : Relaxed a b lengths x near w labels k w' labels'
 
 -- what the walk needs at arc i, which starts at x and ends at y
-pub record Step (a b lengths before : List ℕ) (x near i : ℕ) (labels : List ℕ) : Type 0 where
-  pub few : i / 2 < 512
-  pub listed : (i / 2 < length a) × ((i / 2 < length b) × ((i / 2 < length lengths) × (i < length before)))
-  pub ends : (at a (i / 2) < 64) × (at b (i / 2) < 64)
+pub record Step (a b before : List ℕ) (x i : ℕ) (labels : List ℕ) : Type 0 where
   pub other : at a (i / 2) + at b (i / 2) ≡ x + tail b a i
   pub inside : tail b a i < 64
-  pub short : at lengths (i / 2) ≤ 65535
-  pub low : near < unreached
   pub falls : at before i ≤ i
   pub long : 64 ≤ length labels
 
@@ -268,20 +248,13 @@ module _ {a b lengths last before : List ℕ} {x near w : ℕ} {labels : List �
     in-arcs : i < 2 * length a
     in-arcs = omega (arith, u.low)
 
-    pub walked_step : Step a b lengths before x near i labels₁
-    walked_step =
-        let e : i / 2 < length a = edge_in can i in-arcs (u.starts i q) in
-        record {
-          few = omega (arith, can.few);
-          listed = (e, (omega (arith, can.both), (omega (arith, can.lengths_long), omega (arith, can.few, can.linked.before_long))));
-          ends = can.ends (i / 2) e;
-          other = other_end a b i x (u.starts i q);
-          inside = end-in can i in-arcs (u.starts i q);
-          short = can.short (i / 2) e;
-          low = can.low;
-          falls = low_before can i in-arcs (u.starts i q);
-          long = omega (arith, can.long, u.relaxed.size);
-        }
+    pub walked_step : Step a b before x i labels₁
+    walked_step = record {
+      other = other_end a b i x (u.starts i q);
+      inside = end-in can i in-arcs (u.starts i q);
+      falls = low_before can i in-arcs (u.starts i q);
+      long = omega (arith, can.long, u.relaxed.size);
+    }
 
     pub walked_more : {y w₂ : ℕ} {labels₂ : List ℕ} → y ≡ tail b a i → Lowered y (near + at lengths (i / 2)) w₁ labels₁ w₂ labels₂
         → Walked a b lengths last before x near w labels (at before i) w₂ labels₂

@@ -10,6 +10,8 @@ use lib.Dec.{eqb, ltb}
 use lib.ListN.{length, set, replicate, length-set, length-replicate, get_or-replicate}
 use lib.Seq.{get_or-set_same, get_or-set_other}
 use borrow.Author.Tests.{eqb-true, lt-ltb, le-ltb, ltb-true, not-true}
+use Rattle.std.specs.Prelude.{Option, MatchOption}
+use Rattle.std.specs.Bool.{then_some}
 use Rattle.arithmetic.specs.Bools.{all}
 use Rattle.arithmetic.specs.Mask.{mask}
 use Rattle.arithmetic.specs.Sum.{pick}
@@ -85,15 +87,8 @@ module _ {g : Graph} (f : WellFormed g) where
   ends : (e : ℕ) → e < edges g → (at g.lower e < 64) × (at g.upper e < 64)
   ends e l = (omega (arith, order f e l, vertices f), omega (arith, order f e l, vertices f))
 
-  pub can_link : CanLink g.lower g.upper (replicate 64 0) (replicate 1024 0)
-  can_link = record {
-    few = (lists f).0;
-    both = (lists f).1.0;
-    ends = ends;
-    last_long = omega (arith, length-replicate {A = ℕ} 64 0);
-    before_long = omega (arith, length-replicate {A = ℕ} 1024 0);
-    none = λ x l. get_or-replicate 64 x 0 0 l;
-  }
+  pub can_link : CanLink g.lower g.upper
+  can_link = record { few = (lists f).0; both = (lists f).1.0; ends = ends }
 
 can_relax : {g : Graph} {s : ℕ} {last before : List ℕ} → CanSearchLinked g s last before → {x near w : ℕ} (labels : List ℕ)
     → x < 64 → near < unreached → IsWord w → 64 ≤ length labels → CanRelax g.lower g.upper g.lengths last before x near w labels
@@ -334,3 +329,9 @@ found {g} can k size b e = record {
   connects = all-connected can k b e;
   each = λ t. label_distance can k (sym (all-connected can k b e) ∙ t) (λ y i. ltb-true _ _ (all-at g.n _ (sym e ∙ t) y i));
 }
+
+-- the labels are handed out if all vertices are reached
+pub handed_out : {g : Graph} {s : ℕ} {b : Bool} {labels : List ℕ} {o : Option (List ℕ)} → Found g s b labels → o ≡ then_some b labels
+    → MatchOption o (connected g ≡ false) (λ table. Found g s true table)
+handed_out {b = true} w e = rw e w
+handed_out {b = false} w e = rw e (sym w.connects)

@@ -1,6 +1,6 @@
 use native.Mathlib.Omega.{arith}
 use Rattle.graph.proofs.Laws.Formed.{vertices}
-use Rattle.dijkstra.proofs.Laws.Search.{searching_start, nearest-out, settle_can, settle_all, settle_less, found}
+use Rattle.dijkstra.proofs.Laws.Search.{searching_start, settle_can, settle_all, settle_less, found, handed_out}
 use Rattle.dijkstra.proofs.search.Goals as goal
 
 pub offset_bounds-labels-start : goal.offset_bounds-labels-start
@@ -15,14 +15,6 @@ overflow_shl-frontier c = omega (arith, c.requires.can.start_in, vertices c.requ
 pub loop-frontier-init : goal.loop-frontier-init
 loop-frontier-init c = searching_start c.requires.can
 
-pub nearest-x-requires : goal.nearest-x-requires
-nearest-x-requires c =
-    (c.loop-frontier.invariant.1.word, c.loop-frontier-test.true, omega (arith, c.loop-frontier.invariant.0))
-
-pub overflow_sub-frontier : goal.overflow_sub-frontier
-overflow_sub-frontier c =
-    (nearest-out c.requires.can.formed c.loop-frontier.invariant.1 c.nearest-x.ensures).part
-
 pub relax_edges-frontier-requires : goal.relax_edges-frontier-requires
 relax_edges-frontier-requires c =
     settle_can c.requires c.loop-frontier.labels c.loop-frontier.invariant.0 c.loop-frontier.invariant.1 c.nearest-x.ensures
@@ -35,10 +27,10 @@ pub loop-frontier-preserved : goal.loop-frontier-preserved
 loop-frontier-preserved c =
     settle_all c.requires c.loop-frontier.labels c.loop-frontier.invariant.0 c.loop-frontier.invariant.1 c.nearest-x.ensures _ c.relax_edges-frontier.ensures
 
-pub all_reached-all-requires : goal.all_reached-all-requires
-all_reached-all-requires c =
-    omega (arith, vertices c.requires.can.formed, c.loop-frontier.invariant.0)
+pub all_reached-requires : goal.all_reached-requires
+all_reached-requires c = omega (arith, vertices c.requires.can.formed, c.loop-frontier.invariant.0)
 
 pub returns : goal.returns
 returns c =
-    found c.requires.can (rw c.loop-frontier-test.false at c.loop-frontier.invariant.1) c.loop-frontier.invariant.0 _ c.all_reached-all.ensures
+    handed_out (found c.requires.can (rw c.loop-frontier-test.false at c.loop-frontier.invariant.1) c.loop-frontier.invariant.0 _ c.all_reached.ensures)
+    c.then_some.ensures

@@ -7,6 +7,3 @@ use Rattle.directory.proofs.pairs_ok.Given as goal
 
 abbrev pub invariant-loop-t : goal.invariant-loop-t
 invariant-loop-t l = (l.t ≤ l.count) × (all l.t (pair_ok l.d l.first l.bytes) ≡ true)
-
-abbrev pub decreases-loop-t : goal.decreases-loop-t
-decreases-loop-t l = l.count - l.t

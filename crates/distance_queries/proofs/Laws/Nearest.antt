@@ -48,14 +48,6 @@ module _ (d amounts : ℕ → ℕ) (best v : ℕ) where
       (λ e. first (omega arith) e (nearer_first h e))
       (λ b. case< (d v) (d best) (λ l. this (omega arith) b l (nearer_this h b l)) (λ l. old (omega arith) b l (nearer_best h b l))))
 
-  pub nearer_most : (r : ℕ) → r ≡ nearer d amounts best v → best ≤ 64 → v < 64 → r ≤ 64
-  nearer_most r e b l =
-      nearer_case
-      (λ _ q. omega (arith, e ∙ sym q))
-      (λ _ _ q. omega (arith, e ∙ sym q))
-      (λ _ _ _ q. omega (arith, e ∙ sym q))
-      (λ _ _ _ q. omega (arith, e ∙ sym q))
-
 pub nearest_none : (d amounts : ℕ → ℕ) → 64 ≡ nearest d amounts 0
 unfolding nearest
 nearest_none d amounts = refl

@@ -1,11 +1,10 @@
 -- The vertices within reach of a start: the word from a table of distances, and what it says bit by bit.
-use Prim.Native.Nat.{ℕ, ◌+◌, ◌*◌, ◌/◌, ◌%◌, ◌^◌, ◌<◌}
+use Prim.Native.Nat.{ℕ, ◌/◌, ◌%◌, ◌^◌, ◌<◌}
 use mathlib.Core.Path.{◌≡◌, ap, ◌∙◌}
 use mathlib.Core.Bool.{Bool, true, false, ◌&&◌}
 use mathlib.Core.List.{List}
 use native.Mathlib.Nat.{mod-lt, div-eq_of_lt, lt_of_lt_of_le}
 use native.Mathlib.Omega.{arith}
-use lib.Bits.{bit_or}
 use lib.Dec.{eqb, ltb, leb, lit<}
 use lib.Pow.{pow_mono}
 use borrow.Author.Tests.{le-ltb, lt-ltb, eqb-true, eqb-false}
@@ -13,20 +12,11 @@ use Rattle.arithmetic.specs.Mask.{mask}
 use Rattle.arithmetic.specs.Sum.{pick}
 use Rattle.arithmetic.specs.Table.{at}
 use Rattle.arithmetic.proofs.Laws.Bools.{case<}
-use Rattle.arithmetic.proofs.Laws.Mask.{mask_ext, mask_lt, bit_mask, shl_one}
+use Rattle.arithmetic.proofs.Laws.Mask.{mask_ext, mask_lt, bit_mask}
 use Rattle.arithmetic.proofs.Laws.Table.{result_refused}
-use Rattle.vertex_set.proofs.Laws.Words.{or_above, mask_step, mask_under}
 use Rattle.graph.specs.Graph.{Graph}
 use Rattle.graph.specs.Distance.{distance}
 use Rattle.distance_queries.specs.Within.{within_refusal, word_within, FoundWithin}
-
--- ---- the word, built from its lowest bit
-module _ (f : ℕ → Bool) (v w : ℕ) (e : w ≡ mask v f) (few : v < 64) where
-  pub word_with : f v ≡ true → bit_or w ((1 * 2 ^ v) % 2 ^ 64) ≡ mask (v + 1) f
-  word_with t = mask_step v f w _ e (rw (shl_one v few, t) (or_above w v (mask_under v f w e)))
-
-  pub word_without : f v ≡ false → w ≡ mask (v + 1) f
-  word_without t = mask_step v f w w e (rw t (omega arith))
 
 -- ---- the call
 pub word_found : (g : Graph) (start reach : ℕ) (table : List ℕ) → ((v : ℕ) → v < g.n → at table v ≡ distance g start v)

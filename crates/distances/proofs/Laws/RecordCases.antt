@@ -2,7 +2,7 @@
 use mathlib.Core.Path.{◌≡◌, refl, sym, ap, ◌∙◌}
 use mathlib.Core.Bool.{Bool, true, false, cond}
 use mathlib.Core.List.{List, map}
-use Prim.Native.Nat.{ℕ, suc, ◌+◌, ◌≤◌, ◌<◌, min}
+use Prim.Native.Nat.{ℕ, suc, ◌+◌, ◌≤◌, ◌<◌}
 use native.Mathlib.Omega.{arith}
 use lib.ListN.{length, get_or, take, set, replicate, length-map, length-append, length-drop, length-replicate, get_or-map}
 use lib.Seq.{take_at, ext_get_or}
@@ -11,26 +11,12 @@ use Rattle.distances.specs.declared.records.EdgeRecord.{EdgeRecord}
 use Rattle.distances.specs.declared.records.Columns.{Columns}
 use Rattle.arithmetic.specs.Table.{tab}
 use Rattle.arithmetic.specs.Refusal.{refusal}
-use Rattle.arithmetic.proofs.Laws.Bools.{case, case≤}
 use Rattle.arithmetic.proofs.Laws.Table.{length-tab, tab-at, tab_none, tab_store}
 use Rattle.graph.specs.Graph.{Graph, graph}
 use Rattle.graph.specs.Checks.{vertices_ok, lists_fit, size_checks, edge_checks}
 use Rattle.distances.specs.Distances.{distances_refusal, distances_table}
 use Rattle.distances.specs.Records.{lower_of, upper_of, length_of, graph_of_records}
-use Rattle.distances.specs.Steps.Records.{no_edge, column, columns_of, Full, OfColumns}
-
--- ---- the call over three tables
-module _ (n m : ℕ) (c : Columns) (out : List ℕ) (h : 512 < m) where
-  pub refused_2 : (r : Bool) → r ≡ vertices_ok n → r ≡ true → OfColumns n m c out 2 out
-  refused_2 r e t = record { few = λ g. absurd (omega arith); many = λ _. (rw (sym e ∙ t), refl) }
-
-  pub refused_1 : (r : Bool) → r ≡ vertices_ok n → r ≡ false → OfColumns n m c out 1 out
-  refused_1 r e t = record { few = λ g. absurd (omega arith); many = λ _. (rw (sym e ∙ t), refl) }
-
-pub answered : (n m : ℕ) (c : Columns) (out : List ℕ) (r : ℕ) (out' : List ℕ) → m ≤ 512
-    → (r ≡ distances_refusal (graph n (take m c.a) (take m c.b) (take m c.lengths)) out)
-    × (out' ≡ distances_table (graph n (take m c.a) (take m c.b) (take m c.lengths)) out) → OfColumns n m c out r out'
-answered n m c out r out' h e = record { few = λ _. e; many = λ g. absurd (omega arith) }
+use Rattle.distances.specs.Steps.Records.{no_edge, column, columns_of}
 
 -- ---- a field of the records
 module _ (f : EdgeRecord → ℕ) (zeroed : f no_edge ≡ 0) (es : List EdgeRecord) where
@@ -52,10 +38,6 @@ module _ (f : EdgeRecord → ℕ) (zeroed : f no_edge ≡ 0) (es : List EdgeReco
   column-all : take (length es) (column f es (length es)) ≡ map f es
   column-all = take_at (tab (length es) (λ i. f (get_or es i no_edge))) _ (length es) (length-tab (length es) _) ∙ tab-map
 
-pub full : (es : List EdgeRecord) (m : ℕ) → m ≤ 512 → Full (columns_of es m)
-full es m h =
-    record { lower = length-column lower_of refl es m h; upper = length-column upper_of refl es m h; sizes = length-column length_of refl es m h }
-
 -- ---- the whole call
 too_many : (n : ℕ) (es : List EdgeRecord) (out : List ℕ) → 512 < length es → distances_refusal (graph_of_records n es) out ≡ cond (vertices_ok n) 2 1
 unfolding distances_refusal refusal size_checks edge_checks lists_fit
@@ -65,14 +47,31 @@ as_lent : (g : Graph) (out : List ℕ) (k : ℕ) → distances_refusal g out ≡
 unfolding distances_table
 as_lent g out k e = rw e
 
-pub of_records : (n : ℕ) (es : List EdgeRecord) (k : ℕ) (out : List ℕ) (r : ℕ) (out' : List ℕ) → k ≡ min (length es) 512
-    → OfColumns n (length es) (columns_of es k) out r out'
-    → (r ≡ distances_refusal (graph_of_records n es) out) × (out' ≡ distances_table (graph_of_records n es) out)
-of_records n es k out r out' e d =
-    case≤ (length es) 512
-    (λ h. let q : k ≡ length es = omega arith in
-    rw (q, column-all lower_of refl es, column-all upper_of refl es, column-all length_of refl es) at (d.few h))
-    (λ h. let t = too_many n es out h in (
-      (d.many h).0 ∙ sym t,
-      (d.many h).1 ∙ case (vertices_ok n) (λ v. as_lent (graph_of_records n es) out 1 (t ∙ rw v)) (λ v. as_lent (graph_of_records n es) out 0 (t ∙ rw v)),
-    ))
+module _ (n : ℕ) (es : List EdgeRecord) (out : List ℕ) where
+  abbrev g : Graph
+  g = graph_of_records n es
+
+  -- more than 512 edges
+  module _ (h : 512 < length es) (r : Bool) (e : r ≡ vertices_ok n) where
+    pub refused_2 : r ≡ true → (2 ≡ distances_refusal g out) × (out ≡ distances_table g out)
+    refused_2 t =
+        let k : distances_refusal g out ≡ 2 = too_many n es out h ∙ rw (sym e ∙ t) in
+        (sym k, as_lent g out 1 k)
+
+    pub refused_1 : r ≡ false → (1 ≡ distances_refusal g out) × (out ≡ distances_table g out)
+    refused_1 t =
+        let k : distances_refusal g out ≡ 1 = too_many n es out h ∙ rw (sym e ∙ t) in
+        (sym k, as_lent g out 0 k)
+
+  -- the first places of the columns are the lists of the fields
+  abbrev m : ℕ
+  m = length es
+
+  abbrev c : Columns
+  c = columns_of es m
+
+  pub of_columns : (r : ℕ) (out' : List ℕ)
+      → (r ≡ distances_refusal (graph n (take m c.a) (take m c.b) (take m c.lengths)) out)
+      × (out' ≡ distances_table (graph n (take m c.a) (take m c.b) (take m c.lengths)) out)
+      → (r ≡ distances_refusal g out) × (out' ≡ distances_table g out)
+  of_columns r out' d = rw (column-all lower_of refl es, column-all upper_of refl es, column-all length_of refl es) at d

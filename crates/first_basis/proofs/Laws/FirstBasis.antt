@@ -3,7 +3,7 @@ use Prim.Native.Nat.{ℕ, ◌+◌, ◌^◌, ◌≤◌, ◌<◌}
 use mathlib.Core.Path.{◌≡◌, refl, sym, ◌∙◌}
 use mathlib.Core.List.{List}
 use native.Mathlib.Omega.{arith}
-use lib.ListN.{length, set, length-set}
+use lib.ListN.{length, set, length-set, replicate, length-replicate}
 use lib.Seq.{get_or-set_same, get_or-set_other}
 use mathlib.Core.Bool.{Bool, true, false, cond}
 use native.Mathlib.Nat.{mul-le-mul_right}
@@ -18,7 +18,7 @@ use Rattle.rooted_tree.specs.Steps.Subtotal.{subtotal}
 use Rattle.graph.specs.Graph.{Graph, edge_length}
 use Rattle.graph.proofs.Laws.Accepted.{vertices_in, lists_in}
 use Rattle.graph.proofs.Laws.Edge.{edge-length, joined_sym, edge_length_sym, edge_length_most}
-use Rattle.tree_pivot.specs.Steps.Basis.{Network, Basis, tables, Places}
+use Rattle.tree_pivot.specs.Steps.Basis.{Network, IsBasis, tables, Places}
 use Rattle.tree_checks.proofs.Laws.TreeTests.{spanning_rooted}
 use Rattle.first_basis.specs.Steps.Perturbed.{supply_of, demand_of, perturbed}
 use Rattle.first_basis.specs.Steps.TreePotential.{HasPotential, potential_at}
@@ -54,6 +54,13 @@ perturbed_fits {n} {first} {rest} masses {old} {new} w few f r light =
     grains : (b : Bool) → cond b first rest ≤ 64
     grains true = f
     grains false = r
+
+-- the tables before they are filled
+pub blank : (parents : List ℕ) → length parents ≡ 64
+    → Places (tables parents (replicate 64 0) (replicate 64 0) (replicate 64 0) (replicate 64 0) (replicate 64 0))
+blank parents h =
+    let z = length-replicate {A = ℕ} 64 0 in
+    record { parents = h; above = z; supply = z; demand = z; masks = z; potential = z }
 
 module _ {g : Graph} {mu nu parents edge : List ℕ} (can : CanStart g mu nu parents edge) where
   pub vertices : (0 < g.n) × (g.n ≤ 64)
@@ -113,7 +120,7 @@ module _ {g : Graph} {mu nu parents edge : List ℕ} (can : CanStart g mu nu par
           × (Filled g.n (subtotal (at parents) g.n (demand_of g.n (at nu))) demand demand'
           × Filled g.n (subtree_mask g.n (at parents)) masks masks'))
           (raised : Filled g.n (potential_at g.n parents above' supply' demand') potential potential') where
-        pub first-basis : Basis g (supply_of (at mu)) (demand_of g.n (at nu)) (tables parents above' supply' demand' masks' potential')
+        pub first-basis : IsBasis g (supply_of (at mu)) (demand_of g.n (at nu)) (tables parents above' supply' demand' masks' potential')
         first-basis = record {
           network = network_of;
           places = record {

@@ -1,4 +1,3 @@
-use Prim.Native.Nat.{◌-◌}
 use Rattle.arithmetic.specs.Table.{at}
 use Rattle.arithmetic.specs.Steps.Fill.{Filling}
 use Rattle.first_basis.specs.Steps.Perturbed.{perturbed}
@@ -6,6 +5,3 @@ use Rattle.first_basis.proofs.perturb.Given as goal
 
 abbrev pub invariant-loop-y : goal.invariant-loop-y
 invariant-loop-y l = Filling l.n (perturbed l.first l.rest (at l.masses)) l.initial.out l.out l.y
-
-abbrev pub decreases-loop-y : goal.decreases-loop-y
-decreases-loop-y l = l.n - l.y

@@ -1,10 +1,6 @@
-use Prim.Native.Nat.{◌≤◌, ◌-◌}
 use Rattle.arithmetic.specs.Steps.Table.{cell}
 use Rattle.floyd_warshall.proofs.Laws.FloydWarshall.{Fills, row_to}
 use Rattle.floyd_warshall.proofs.relax_row.Given as goal
 
 abbrev pub invariant-loop-j : goal.invariant-loop-j
-invariant-loop-j l = (l.j ≤ l.n) × Fills l.n (row_to l.k l.i l.j (cell l.n l.initial.out)) l.initial.out l.out
-
-abbrev pub decreases-loop-j : goal.decreases-loop-j
-decreases-loop-j l = l.n - l.j
+invariant-loop-j l = Fills l.n (row_to l.k l.i l.j (cell l.n l.initial.out)) l.initial.out l.out

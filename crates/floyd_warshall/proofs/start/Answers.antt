@@ -1,7 +1,7 @@
-use Rattle.graph.specs.Graph.{graph}
+use Rattle.graph.specs.Graph.{graph_of}
 use Rattle.floyd_warshall.proofs.Laws.FloydWarshall.{via-start}
 use Rattle.floyd_warshall.proofs.start.Goals as goal
 
 pub returns : goal.returns
 returns c =
-    via-start (graph c.args.n c.args.a.now c.args.b.now c.args.lengths.now) _ _ _ _ c.fill_table.ensures c.put_edges.ensures c.zero_diagonal.ensures
+    via-start (graph_of c.args.g.now) _ _ _ _ c.fill_table.ensures c.put_edges.ensures c.zero_diagonal.ensures

@@ -4,13 +4,14 @@ use mathlib.Core.Path.{◌≡◌, sym, ap, ◌∙◌}
 use mathlib.Core.List.{List}
 use native.Mathlib.Numerals.{add-one}
 use native.Mathlib.Omega.{arith}
-use lib.ListN.{set, length-set}
+use lib.ListN.{set, replicate, length-set, length-replicate}
+use Rattle.std.proofs.lemmas.List.{get_or-replicate}
 use lib.Seq.{get_or-set_same, get_or-set_other}
 use borrow.Author.Tests.{ne_eqb, eq-eqb}
 use borrow.Author.Count.{below_none, below_more}
 use Rattle.arithmetic.specs.Table.{at}
 use Rattle.arithmetic.proofs.Laws.Bools.{case≡}
-use Rattle.forward_star.specs.Steps.Linked.{tail, latest, CanLink, Linked}
+use Rattle.forward_star.specs.Steps.Linked.{tail, latest, Linked}
 
 -- ---- the two arcs of an edge
 module _ (a b : List ℕ) where
@@ -63,9 +64,14 @@ module _ (f : ℕ → ℕ) (x : ℕ) where
   latest_other k d = rw (add-one, ne_eqb _ _ d)
 
 -- ---- linking
-pub linked_none : {a b last before : List ℕ} → CanLink a b last before → Linked (tail a b) (2 * 0) last before
+pub linked_none : (a b : List ℕ) → Linked (tail a b) (2 * 0) (replicate 64 0) (replicate 1024 0)
 unfolding latest
-linked_none c = record { last_long = c.last_long; before_long = c.before_long; last_is = c.none; before_is = below_none _ }
+linked_none a b = record {
+  last_long = omega (arith, length-replicate {A = ℕ} 64 0);
+  before_long = omega (arith, length-replicate {A = ℕ} 1024 0);
+  last_is = λ x l. get_or-replicate 64 x 0 0 l;
+  before_is = below_none _;
+}
 
 linked_more : {f : ℕ → ℕ} {k : ℕ} {last before : List ℕ} → Linked f k last before → (x : ℕ) → f k ≡ x → x < 64 → k < 1024
     → Linked f (k + 1) (set last x (k + 1)) (set before k (at last x))

@@ -11,14 +11,11 @@ unfoldable pub latest : (ℕ → ℕ) → ℕ → ℕ → ℕ
 latest f x zero = 0
 latest f x (suc k) = cond (eqb (f k) x) (suc k) (latest f x k)
 
--- at most 512 edges, their ends below 64, and tables of zeros with room
-pub record CanLink (a b last before : List ℕ) : Type 0 where
+-- at most 512 edges, their ends below 64
+pub record CanLink (a b : List ℕ) : Type 0 where
   pub few : length a ≤ 512
   pub both : length b ≡ length a
   pub ends : (e : ℕ) → e < length a → (at a e < 64) × (at b e < 64)
-  pub last_long : 64 ≤ length last
-  pub before_long : 1024 ≤ length before
-  pub none : (x : ℕ) → x < 64 → at last x ≡ 0
 
 -- the arcs below number k are linked, f telling where each starts: at each vertex its last arc, at each arc the one before it at its vertex
 pub record Linked (f : ℕ → ℕ) (k : ℕ) (last before : List ℕ) : Type 0 where

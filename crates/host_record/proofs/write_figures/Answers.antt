@@ -3,4 +3,4 @@ use Rattle.host_record.proofs.write_figures.Goals as goal
 
 pub returns : goal.returns
 returns c =
-    figures _ _ _ _ _ _ _ c.requires c.put_long.ensures c.put_word.ensures c.put_byte.ensures
+    figures _ _ _ _ _ _ _ c.requires c.put.ensures c.put-2.ensures c.put-3.ensures

@@ -12,7 +12,7 @@ loop-i-init c = section_none _ _
 pub loop-i-preserved : goal.loop-i-preserved
 loop-i-preserved c =
     section_more _ _ c.loop-i.invariant c.loop-i-test.true (omega arith) refl
-    (c.bits_of.ensures ∙ read_signed (get_or c.args.potential.now c.loop-i.i (pos 0)) c.bits_of-arg-1.given) c.put_word.ensures
+    (c.bits_of.ensures ∙ read_signed (get_or c.args.potential.now c.loop-i.i (pos 0)) c.bits_of-arg-1.given) c.put.ensures
 
 pub shape_of-out : goal.shape_of-out
 shape_of-out c = c.loop-i.invariant.long

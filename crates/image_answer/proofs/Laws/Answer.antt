@@ -9,6 +9,12 @@ use lib.Dec.{leb}
 use lib.IntN.{ℤ}
 use lib.ListN.{length, get_or, take, drop, length-append, length-drop, get_or-append}
 use borrow.Author.Tests.{le-leb, lt-leb}
+use Rattle.std.specs.Prelude.{Result, IfOk}
+use Rattle.std.specs.declared.result.Result.TheVariants.{Ok, Err}
+use Rattle.refusals.specs.declared.Refusal.{Refusal}
+use Rattle.refusals.specs.declared.Refusal.TheVariants.{Tables}
+use Rattle.refusals.specs.Refusals.{number, number_of}
+use Rattle.refusals.proofs.Laws.Outcome.{number_some}
 use Rattle.image_answer.specs.declared.Answer.{Answer}
 use Rattle.arithmetic.specs.Sum.{pick}
 use Rattle.arithmetic.specs.Table.{at, tab, matrix, written}
@@ -30,20 +36,21 @@ use Rattle.image.specs.Contents.{graph_of_image}
 use Rattle.image_reader.specs.Read.{Lists, Read}
 use Rattle.image_reader.proofs.Laws.Tables.{Wide, formed, few, of_vertices, graph_read, amounts_read}
 use Rattle.image_answer.specs.ImageAnswer.{answer_refusal, answer_cost, image_plan, evaluated_potential, image_best_cost, BestAnswer}
-use Rattle.image_answer.specs.Steps.Answered.{answer_root, answer_parent, answer_potential, answer_plan, success, told, Answered, Spacious}
+use Rattle.image_answer.specs.Steps.Answered.{answer_root, answer_parent, answer_potential, answer_plan, success, Answered, Spacious}
 use Rattle.image_answer.proofs.Laws.Passed.{Passed, passed}
-use Rattle.image_answer.proofs.Laws.Told.{told_same, told_number, told-success, written_same, success_same, tell_refused}
+use Rattle.image_answer.proofs.Laws.Told.{told_same, written_same, success_same}
 use Rattle.image_answer.proofs.Laws.AnswerCheck.{read_refused, short_refused, mus, nus, before, after, up, evaluated_number, solved_number}
 
-refused_answer : {s : List ℕ} {fits : Bool} {k : ℕ} {potentials : List ℤ} {entries : List ℕ} {r : Answer}
-    → k ≡ answer_refusal s fits → (k ≡ 0 → ⊥) → r ≡ told k (success 0 0 [] 0 0 0) → Answered s fits potentials entries r potentials entries
-refused_answer {s} {k = k} number d tells = record {
+refused_answer : {s : List ℕ} {fits : Bool} {r : Refusal} {potentials : List ℤ} {entries : List ℕ}
+    → number r ≡ answer_refusal s fits → Answered s fits potentials entries (Err r) potentials entries
+refused_answer {s} {r = r} e = record {
+  refusal = e;
   p = parent_in s;
   u = evaluated_potential s;
-  best = λ z. absurd (d (number ∙ z));
-  told_is = rw (← number) (tell_refused _ _ d tells);
-  potentials_are = rw (← number) (written_refused k _ _ d);
-  plan_is = rw (← number) (written_refused k _ _ d);
+  best = λ z. absurd (number_some r (e ∙ z));
+  answer_is = tt;
+  potentials_are = rw (← e) (written_refused _ _ _ (number_some r));
+  plan_is = rw (← e) (written_refused _ _ _ (number_some r));
 }
 
 -- what a table that was filled reads in its first places
@@ -61,14 +68,14 @@ module _ {s : List ℕ} {t t' : Lists} {n m root tree : ℕ} (read : Read s t 0 
     le-leb (vertex_count s * vertex_count s) z (rw read.n_is at h),
   )
 
-  module _ {potentials potentials' : List ℤ} {entries entries' : List ℕ} {k cost moved : ℕ} {r : Answer} (long : length potentials ≡ 64)
+  module _ {potentials potentials' : List ℤ} {entries entries' : List ℕ} {k cost moved : ℕ} (o : Result Answer Refusal) (long : length potentials ≡ 64)
       (spacious : n * n ≤ length entries) where
     -- with a tree, which was evaluated
     pub evaluated_answer : (tree ≡ 0 → ⊥) → {imbalances imbalances' : List ℤ} → length imbalances ≡ 64
         → Evaluated (graph n (take m t'.lower) (take m t'.upper) (take m t'.lengths))
         (given (take n t'.mu) (take n t'.nu) root (take n t'.parents)) imbalances potentials entries k cost moved imbalances' potentials' entries'
-        → r ≡ told k (success n root t'.parents 1 cost moved) → Answered s true potentials entries r potentials' entries'
-    evaluated_answer d {imbalances} l e tells =
+        → number_of o ≡ k → IfOk o (λ r. r ≡ success n root t'.parents true cost moved) → Answered s true potentials entries o potentials' entries'
+    evaluated_answer d {imbalances} l e numbered tells =
         let N = vertex_count s in
         let marked : has_tree s ≡ true = case (has_tree s) (λ h. h) (λ h. absurd (d (read.tree_is ∙ rw h))) in
         let root_is : root ≡ root_in s = rw marked at read.root_is in
@@ -80,16 +87,18 @@ module _ {s : List ℕ} {t t' : Lists} {n m root tree : ℕ} (read : Read s t 0 
         = λ z.
         same_tree (up s) (λ x b. rw (up s x b) ((passed s true (sym number ∙ z)).parents marked x b)) (root_in s) in
         record {
+          refusal = numbered ∙ number;
           p = parent_in s;
           u = evaluated_potential s;
           best = λ _ h. absurd (clash marked h);
-          told_is =
-              tells ∙ rw (← number, marked)
-              (told_same k (λ z.
-              success_same t'.parents (tab N (parent_in s)) read.n_is root_is
+          answer_is =
+              told_same k o numbered (λ z.
+              rw marked
+              (success_same t'.parents (tab N (parent_in s)) read.n_is root_is
               (λ x b. filled_at N (parent_in s) 0 _ _ parents_are x b ∙ sym (up s x b))
               refl (rw z at w.cost_is ∙ tree_cost_same (graph_of_image s) (same z) (before s) (after s))
-              (rw z at w.moves_are ∙ moves_ext N _ _ (plan_same (same z) (before s) (after s)))));
+              (rw z at w.moves_are ∙ moves_ext N _ _ (plan_same (same z) (before s) (after s)))))
+              tells;
           potentials_are =
               w.potential_is ∙ rw (← number, marked)
               (written_same k potentials (λ z. tab_ext N _ _ (potential_same (graph_of_image s) (same z) (before s) (after s))));
@@ -100,8 +109,8 @@ module _ {s : List ℕ} {t t' : Lists} {n m root tree : ℕ} (read : Read s t 0 
     pub solved_answer : tree ≡ 0 → {parents parents' : List ℕ} → length parents ≡ 64
         → Solved (graph n (take m t'.lower) (take m t'.upper) (take m t'.lengths)) (take n t'.mu) (take n t'.nu)
         parents potentials entries k cost moved parents' potentials' entries'
-        → r ≡ told k (success n 0 parents' 0 cost moved) → Answered s true potentials entries r potentials' entries'
-    solved_answer d {parents} {parents'} l e tells =
+        → number_of o ≡ k → IfOk o (λ r. r ≡ success n 0 parents' false cost moved) → Answered s true potentials entries o potentials' entries'
+    solved_answer d {parents} {parents'} l e numbered tells =
         let N = vertex_count s in
         let unmarked : has_tree s ≡ false = case (has_tree s) (λ h. absurd (let y : tree ≡ 1 = read.tree_is ∙ rw h in omega arith)) (λ h. h) in
         let w = rw (graph_read read, (amounts_read read).0, (amounts_read read).1) at e in
@@ -115,78 +124,68 @@ module _ {s : List ℕ} {t t' : Lists} {n m root tree : ℕ} (read : Read s t 0 
         = λ z.
         best_is (graph_of_image s) (amount s 0) (amount s 1) (passed s true (sym number ∙ z)).accepted (best z) in
         record {
+          refusal = numbered ∙ number;
           p = w.p;
           u = w.u;
           best = λ z _. let y = number ∙ z in rw (← least y) (best y);
-          told_is =
-              tells ∙ rw (← number, unmarked)
-              (told_same k (λ z.
-              success_same parents' (tab N w.p) read.n_is refl
+          answer_is =
+              told_same k o numbered (λ z.
+              rw unmarked
+              (success_same parents' (tab N w.p) read.n_is refl
               (λ x h. filled_at N w.p 0 _ _ (rw z at w.parents_are) x h ∙ sym (tab-at N w.p 0 x h))
-              refl (rw z at w.cost_is ∙ least z) (rw z at w.moves_are ∙ moves_ext N _ _ planned)));
+              refl (rw z at w.cost_is ∙ least z) (rw z at w.moves_are ∙ moves_ext N _ _ planned)))
+              tells;
           potentials_are = rw (← number, unmarked) w.potentials_are;
           plan_is = w.plan_is ∙ rw (← number, unmarked) (written_same k entries (λ z. rows_ext N N _ _ planned));
         }
 
 -- ---- the answer of an image
-pub not_read : {s : List ℕ} {t t' : Lists} {k n m root tree : ℕ} → Read s t k n m root tree t' → Wide t → (k ≡ 0 → ⊥) → {fits : Bool}
-    {potentials : List ℤ} {entries : List ℕ} {r : Answer} → r ≡ told k (success 0 0 [] 0 0 0) → Answered s fits potentials entries r potentials entries
-not_read {s} read w d {fits} tells = refused_answer (read_refused s fits w read.refusal d) d tells
+pub not_read : {s : List ℕ} {t t' : Lists} {r : Refusal} {n m root tree : ℕ} → Read s t (number r) n m root tree t' → Wide t → {fits : Bool}
+    {potentials : List ℤ} {entries : List ℕ} → Answered s fits potentials entries (Err r) potentials entries
+not_read {s} {r = r} read w {fits} = refused_answer (read_refused s fits w read.refusal (number_some r))
 
 module _ {s : List ℕ} {t t' : Lists} {n m root tree : ℕ} (read : Read s t 0 n m root tree t') where
   pub plan_fits : {places : ℕ} → Spacious s places → n * n ≤ places
   plan_fits spacious = rw read.n_is (spacious (few read))
 
   -- the host's buffer is too short, or has room
-  pub too_short : {room : ℕ} → room < record_size n → {potentials : List ℤ} {entries : List ℕ} {r : Answer}
-      → r ≡ told 2 (success 0 0 [] 0 0 0) → Answered s (leb (record_size (vertex_count s)) room) potentials entries r potentials entries
-  too_short {room} h tells =
-      rw (lt-leb (record_size (vertex_count s)) room (rw read.n_is at h)) (refused_answer (short_refused (formed read)) (λ y. omega arith) tells)
+  pub too_short : {room : ℕ} → room < record_size n → {potentials : List ℤ} {entries : List ℕ}
+      → Answered s (leb (record_size (vertex_count s)) room) potentials entries (Err Tables) potentials entries
+  too_short {room} h =
+      rw (lt-leb (record_size (vertex_count s)) room (rw read.n_is at h)) (refused_answer (short_refused (formed read)))
 
-  pub fitting : {room : ℕ} → record_size n ≤ room → {potentials potentials' : List ℤ} {entries entries' : List ℕ} {r : Answer}
+  pub fitting : {room : ℕ} → record_size n ≤ room → {potentials potentials' : List ℤ} {entries entries' : List ℕ} {r : Result Answer Refusal}
       → Answered s true potentials entries r potentials' entries' → Answered s (leb (record_size (vertex_count s)) room) potentials entries r potentials' entries'
   fitting {room} h a = rw (le-leb (record_size (vertex_count s)) room (rw read.n_is at h)) a
 
 -- ---- what is known of an answer
 module _ {s : List ℕ} {fits : Bool} {potentials potentials' : List ℤ} {entries entries' : List ℕ} {r : Answer}
-    (a : Answered s fits potentials entries r potentials' entries') where
-  pub number : r.refusal ≡ answer_refusal s fits
-  number = told_number (answer_refusal s fits) _ r refl a.told_is
+    (a : Answered s fits potentials entries (Ok r) potentials' entries') where
+  pub passes : Passed s fits
+  passes = passed s fits (sym a.refusal)
 
-  -- that was not refused
-  module _ (z : r.refusal ≡ 0) where
-    none : answer_refusal s fits ≡ 0
-    none = sym number ∙ z
+  pub best_found : has_tree s ≡ false → BestAnswer s a.p a.u
+  best_found = a.best (sym a.refusal)
 
-    pub passes : Passed s fits
-    passes = passed s fits none
+  pub potentials_filled : potentials' ≡ written 0 (tab (vertex_count s) (answer_potential s a.u)) potentials
+  potentials_filled = rw (← a.refusal) at a.potentials_are
 
-    pub best_found : has_tree s ≡ false → BestAnswer s a.p a.u
-    best_found = a.best none
+  pub plan-filled : entries' ≡ written 0 (matrix (vertex_count s) (answer_plan s a.p)) entries
+  plan-filled = rw (← a.refusal) at a.plan_is
 
-    pub success_is : r ≡ success (vertex_count s) (answer_root s) (tab (vertex_count s) (answer_parent s a.p)) (pick (has_tree s) 1) (answer_cost s)
-        (moves (vertex_count s) (answer_plan s a.p))
-    success_is = told-success _ _ r none a.told_is
+  pub root_below : r.tree.root < r.tree.n
+  root_below = rw a.answer_is passes.root
 
-    pub potentials_filled : potentials' ≡ written 0 (tab (vertex_count s) (answer_potential s a.u)) potentials
-    potentials_filled = rw none at a.potentials_are
+  pub answer_few : (r.tree.n ≤ 64) × (r.tree.n * r.tree.n ≤ 4096)
+  answer_few = let few = passes.few in rw a.answer_is (few, omega (arith, mul-le-mul few few))
 
-    pub plan-filled : entries' ≡ written 0 (matrix (vertex_count s) (answer_plan s a.p)) entries
-    plan-filled = rw none at a.plan_is
+  pub plan-room : {places : ℕ} → Spacious s places → r.tree.n * r.tree.n ≤ places
+  plan-room spacious = rw a.answer_is (spacious passes.few)
 
-    pub root_below : r.tree.root < r.tree.n
-    root_below = rw success_is passes.root
-
-    pub answer_few : (r.tree.n ≤ 64) × (r.tree.n * r.tree.n ≤ 4096)
-    answer_few = let few = passes.few in rw success_is (few, omega (arith, mul-le-mul few few))
-
-    pub plan-room : {places : ℕ} → Spacious s places → r.tree.n * r.tree.n ≤ places
-    plan-room spacious = rw success_is (spacious passes.few)
-
-    pub potentials_long : length potentials ≡ 64 → length potentials' ≡ 64
-    potentials_long h =
-        let few = passes.few in
-        rw (potentials_filled, length-append, length-drop, length-tab) (omega arith)
+  pub potentials_long : length potentials ≡ 64 → length potentials' ≡ 64
+  potentials_long h =
+      let few = passes.few in
+      rw (potentials_filled, length-append, length-drop, length-tab) (omega arith)
 
 -- entry c of a plan's table that was filled
 pub plan_entry : (n : ℕ) (t : ℕ → ℕ → ℕ) (l lent : List ℕ) → l ≡ written 0 (matrix n t) lent → (c : ℕ) → c < n * n → at l c ≡ at (matrix n t) c

@@ -8,6 +8,10 @@ use native.Mathlib.Omega.{arith}
 use lib.Dec.{leb}
 use lib.IntN.{ℤ}
 use borrow.Author.Tests.{le-leb}
+use Rattle.std.specs.Prelude.{Result, IfOk}
+use Rattle.std.specs.declared.result.Result.TheVariants.{Ok, Err}
+use Rattle.refusals.specs.declared.Refusal.{Refusal}
+use Rattle.refusals.specs.Refusals.{number_of}
 use Rattle.image_answer.specs.declared.Answer.{Answer}
 use Rattle.arithmetic.specs.Refusal.{refusal}
 use Rattle.arithmetic.proofs.Laws.Bools.{case}
@@ -28,7 +32,6 @@ use Rattle.host_record.specs.Record.{record_size}
 use Rattle.image_answer.specs.ImageAnswer.{answer_refusal, answer_cost}
 use Rattle.image_answer.specs.Steps.Answered.{Answered}
 use Rattle.image_answer.proofs.Laws.Passed.{Passed, passed}
-use Rattle.image_answer.proofs.Laws.Answer.{number, success_is}
 
 -- the numbers of an image are below 24, as all that the documents have
 pub number_below : (s : List ℕ) (fits : Bool) → answer_refusal s fits < 24
@@ -74,10 +77,14 @@ cost_most s fits h = case (has_tree s) (λ e. rw e (most (root_in s) (parent_in 
         omega (arith, most t.root t.parents t.spanning.root, t.cost_is)
 
 -- an answer's number and cost, where the room is enough
-module _ {s : List ℕ} {room : ℕ} (enough : record_size 64 ≤ room) {potentials potentials' : List ℤ} {entries entries' : List ℕ} {r : Answer}
+module _ {s : List ℕ} {room : ℕ} (enough : record_size 64 ≤ room) {potentials potentials' : List ℤ} {entries entries' : List ℕ} {r : Result Answer Refusal}
     (a : Answered s (leb (record_size (vertex_count s)) room) potentials entries r potentials' entries') where
-  pub outcome_number : r.refusal ≡ answer_refusal s true
-  outcome_number = number a ∙ room_enough s room enough
+  pub outcome_number : number_of r ≡ answer_refusal s true
+  outcome_number = a.refusal ∙ room_enough s room enough
 
-  pub outcome_cost : r.refusal ≡ 0 → r.cost ≡ answer_cost s
-  outcome_cost z = rw (success_is a z)
+  pub outcome_cost : IfOk r (λ b. b.cost ≡ answer_cost s)
+  outcome_cost = of_success r _ a.answer_is
+    where
+      of_success : (o : Result Answer Refusal) (b : Answer) → IfOk o (λ c. c ≡ b) → IfOk o (λ c. c.cost ≡ b.cost)
+      of_success (Ok c) b e = rw e
+      of_success (Err f) b e = tt

@@ -1,7 +1,12 @@
 -- What is told of an answer.
 use Prim.Native.Nat.{ℕ, zero, suc}
-use mathlib.Core.Path.{◌≡◌, refl, ◌∙◌}
-use mathlib.Core.List.{List, []}
+use mathlib.Core.Path.{◌≡◌, refl, sym, ◌∙◌}
+use mathlib.Core.Bool.{Bool}
+use mathlib.Core.List.{List}
+use Rattle.std.specs.Prelude.{Result, IfOk}
+use Rattle.std.specs.declared.result.Result.TheVariants.{Ok, Err}
+use Rattle.refusals.specs.declared.Refusal.{Refusal}
+use Rattle.refusals.specs.Refusals.{number_of}
 use borrow.Author.Tests.{le-ltb}
 use Rattle.spanning_tree.specs.declared.tree.Tree.{Tree}
 use Rattle.image_answer.specs.declared.Answer.{Answer}
@@ -10,22 +15,12 @@ use Rattle.arithmetic.proofs.Laws.Bools.{case<}
 use Rattle.arithmetic.proofs.Laws.Table.{tab_ext}
 use Rattle.spanning_tree.specs.TreeValue.{parents_held}
 use Rattle.duality.proofs.Laws.Agree.{Same}
-use Rattle.image_answer.specs.Steps.Answered.{success, told}
+use Rattle.image_answer.specs.Steps.Answered.{success}
 
 -- ---- what is told and written counts only after a success
-pub told_same : (k : ℕ) {a b : Answer} → (k ≡ 0 → a ≡ b) → told k a ≡ told k b
-unfolding told
-told_same zero h = h refl
-told_same (suc k) h = refl
-
-pub told_number : (k : ℕ) (a r : Answer) → a.refusal ≡ 0 → r ≡ told k a → r.refusal ≡ k
-unfolding told
-told_number zero a r h e = rw e h
-told_number (suc k) a r h e = rw e
-
-pub told-success : (k : ℕ) (a r : Answer) → k ≡ 0 → r ≡ told k a → r ≡ a
-unfolding told
-told-success k a r z e = rw z at e
+pub told_same : (k : ℕ) (o : Result Answer Refusal) {a b : Answer} → number_of o ≡ k → (k ≡ 0 → a ≡ b) → IfOk o (λ r. r ≡ a) → IfOk o (λ r. r ≡ b)
+told_same k (Ok r) e h t = t ∙ h (sym e)
+told_same k (Err f) e h t = tt
 
 pub written_same : {A : Type 0} (k : ℕ) {x y : List A} (l : List A) → (k ≡ 0 → x ≡ y) → written k x l ≡ written k y l
 written_same zero l h = rw (h refl)
@@ -36,26 +31,13 @@ held_same : (n : ℕ) (l m : List ℕ) → Same n (at l) (at m) → parents_held
 held_same n l m h =
     tab_ext 64 _ _ (λ x _. case< x n (λ k. rw (h x k)) (λ k. rw (le-ltb x n k)))
 
-pub success_same : {n n' root root' marked marked' cost cost' moved moved' : ℕ} (l l' : List ℕ) → n ≡ n' → root ≡ root'
+pub success_same : {n n' root root' cost cost' moved moved' : ℕ} {marked marked' : Bool} (l l' : List ℕ) → n ≡ n' → root ≡ root'
     → Same n' (at l) (at l') → marked ≡ marked' → cost ≡ cost' → moved ≡ moved'
     → success n root l marked cost moved ≡ success n' root' l' marked' cost' moved'
 success_same {n' = n'} l l' e f h g i j = rw (e, f, held_same n' l l' h, g, i, j)
 
--- ---- what the code tells
-
--- whatever the number is, nothing else
-pub tell_none : (k : ℕ) (zeros : List ℕ) → zeros ≡ parents_held 0 []
-    → record { refusal = k; tree = record { n = 0; root = 0; parents = zeros }; given = 0; cost = 0; moves = 0 } ≡ told k (success 0 0 [] 0 0 0)
-unfolding told
-tell_none zero zeros e = rw e
-tell_none (suc k) zeros e = rw e
-
-pub tell_refused : {k : ℕ} (a b : Answer) {r : Answer} → (k ≡ 0 → ⊥) → r ≡ told k a → r ≡ told k b
-tell_refused {k} a b d e = e ∙ told_same k (λ z. absurd (d z))
-
 -- the tree was made anew
-pub tell_made : {k n root : ℕ} (parents : List ℕ) {marked cost moved : ℕ} {tree : Tree} → k ≡ 0
+pub tell_made : {n root : ℕ} (parents : List ℕ) {marked : Bool} {cost moved : ℕ} {tree : Tree}
     → (tree.n ≡ n) × ((tree.root ≡ root) × (tree.parents ≡ parents_held n parents))
-    → record { refusal = 0; tree = tree; given = marked; cost = cost; moves = moved } ≡ told k (success n root parents marked cost moved)
-unfolding told
-tell_made parents z e = rw (z, ← e.1.1, ← e.0, ← e.1.0)
+    → record { tree = tree; given = marked; cost = cost; moves = moved } ≡ success n root parents marked cost moved
+tell_made parents e = rw (← e.1.1, ← e.0, ← e.1.0)

@@ -1,30 +1,32 @@
-use lib.ListN.{length-take}
+use mathlib.Core.Path.{refl, ap}
 use native.Mathlib.Omega.{arith}
+use Rattle.std.proofs.lemmas.Result.{err_from_is_err_and}
+use Rattle.image_reader.specs.Reading.{tree_mark}
+use Rattle.image_answer.proofs.Laws.Told.{tell_made}
 use Rattle.image_answer.proofs.Laws.Answer.{evaluated_answer, solved_answer}
 use Rattle.image_answer.proofs.answer_tables.Goals as goal
 
-pub slice_bounds-edges_a-end : goal.slice_bounds-edges_a-end
-slice_bounds-edges_a-end c = simp length-take (omega arith)
+-- `answer_tables` meets its contract.
+pub returns-in_err-best : goal.returns-in_err-best
+returns-in_err-best c s t read =
+    let handed = err_from_is_err_and c.from_residual.result c.from_residual.ensures.1 in
+    rw (handed.1, handed.2)
+    (solved_answer read _ (omega arith) c.requires.7 (ap tree_mark c.in_default.is) c.requires.6 c.in_err-best.ensures refl tt)
 
-pub slice_bounds-edges_b-end : goal.slice_bounds-edges_b-end
-slice_bounds-edges_b-end c = simp length-take (omega arith)
+pub returns-in_default : goal.returns-in_default
+returns-in_default c s t read =
+    solved_answer read _ (omega arith) c.requires.7 (ap tree_mark c.in_default.is) c.requires.6 c.in_ok-best.ensures refl
+    (tell_made c.solve.new.parents c.new.ensures)
 
-pub slice_bounds-edge_lengths-end : goal.slice_bounds-edge_lengths-end
-slice_bounds-edge_lengths-end c = simp length-take (omega arith)
-
-pub slice_bounds-before-end : goal.slice_bounds-before-end
-slice_bounds-before-end c = simp length-take (omega arith)
-
-pub slice_bounds-after-end : goal.slice_bounds-after-end
-slice_bounds-after-end c = simp length-take (omega arith)
-
-pub returns-then-found-eq0 : goal.returns-then-found-eq0
-returns-then-found-eq0 c s t read =
-    solved_answer read (omega arith) c.requires.7 c.if-found-eq0.true c.requires.6 c.solve-best.ensures c.tell.ensures
-
-pub slice_bounds-evaluate-end-2 : goal.slice_bounds-evaluate-end-2
-slice_bounds-evaluate-end-2 c = simp length-take (omega arith)
+pub returns-in_err-value : goal.returns-in_err-value
+returns-in_err-value c s t read =
+    let handed = err_from_is_err_and c.from_residual-in_err-value.result c.from_residual-in_err-value.ensures.1 in
+    let found = rw c.in-Some.is at read in
+    rw (handed.1, handed.2)
+    (evaluated_answer found _ (omega arith) c.requires.7 (λ z. omega arith) (omega arith) c.in_err-value.ensures refl tt)
 
 pub returns : goal.returns
 returns c s t read =
-    evaluated_answer read (omega arith) c.requires.7 c.if-found-eq0.false (omega arith) c.evaluate-value.ensures c.tell-2.ensures
+    let found = rw c.in-Some.is at read in
+    evaluated_answer found _ (omega arith) c.requires.7 (λ z. omega arith) (omega arith) c.in_ok-value.ensures refl
+    (tell_made c.args.parents.now c.new-2.ensures)

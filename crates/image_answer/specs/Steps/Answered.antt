@@ -1,5 +1,7 @@
--- The answer to an image s, in numbers and lent tables.
-use Rattle.std.specs.Prelude.{ℕ, zero, suc, ◌*◌, ◌≤◌, ◌≡◌, Bool, false, cond, List, [], ℤ}
+-- The answer to an image s, as a Result and in lent tables.
+use Rattle.std.specs.Prelude.{ℕ, ◌*◌, ◌≤◌, ◌≡◌, Bool, false, cond, List, ℤ, Result, IfOk}
+use Rattle.refusals.specs.declared.Refusal.{Refusal}
+use Rattle.refusals.specs.Refusals.{number_of}
 use Rattle.image_answer.specs.declared.Answer.{Answer}
 use Rattle.arithmetic.specs.Sum.{pick}
 use Rattle.arithmetic.specs.Table.{tab, matrix, written}
@@ -22,31 +24,25 @@ answer_potential s u = cond (has_tree s) (evaluated_potential s) u
 abbrev pub answer_plan : List ℕ → (ℕ → ℕ) → ℕ → ℕ → ℕ
 answer_plan s p = image_plan s (answer_root s) (answer_parent s p)
 
--- what is returned after a success: a tree, 1 if it was given, its cost and its plan's moves
-abbrev pub success : (n root : ℕ) (parents : List ℕ) (marked cost moved : ℕ) → Answer
+-- what is returned after a success: a tree, whether it was given, its cost and its plan's moves
+abbrev pub success : (n root : ℕ) (parents : List ℕ) (marked : Bool) (cost moved : ℕ) → Answer
 success n root parents marked cost moved = record {
-  refusal = 0;
   tree = record { n = n; root = root; parents = parents_held n parents };
   given = marked;
   cost = cost;
   moves = moved;
 }
 
--- and with the refusal number k: "A refusal returns the number, all other results 0"
-unfoldable pub told : ℕ → Answer → Answer
-told zero a = a
-told (suc k) a = record { refusal = suc k; tree = record { n = 0; root = 0; parents = parents_held 0 [] }; given = 0; cost = 0; moves = 0 }
-
 -- the whole outcome: what is returned, and the tables as they come back; `fits` says whether the host's buffer has room for the record
 pub record Answered (s : List ℕ) (fits : Bool) (potentials : List ℤ) (entries : List ℕ)
-    (r : Answer) (potentials' : List ℤ) (entries' : List ℕ) : Type 0 where
+    (r : Result Answer Refusal) (potentials' : List ℤ) (entries' : List ℕ) : Type 0 where
+  pub refusal : number_of r ≡ answer_refusal s fits
   -- "Which of several best trees comes back is free, and so is the potential between those that meet mission demand 3"
   pub p : ℕ → ℕ
   pub u : ℕ → ℤ
   pub best : answer_refusal s fits ≡ 0 → has_tree s ≡ false → BestAnswer s p u
   -- all else follows from these two
-  pub told_is : r ≡ told (answer_refusal s fits)
-      (success (vertex_count s) (answer_root s) (tab (vertex_count s) (answer_parent s p)) (pick (has_tree s) 1) (answer_cost s)
+  pub answer_is : IfOk r (λ a. a ≡ success (vertex_count s) (answer_root s) (tab (vertex_count s) (answer_parent s p)) (has_tree s) (answer_cost s)
       (moves (vertex_count s) (answer_plan s p)))
   pub potentials_are : potentials' ≡ written (answer_refusal s fits) (tab (vertex_count s) (answer_potential s u)) potentials
   pub plan_is : entries' ≡ written (answer_refusal s fits) (matrix (vertex_count s) (answer_plan s p)) entries

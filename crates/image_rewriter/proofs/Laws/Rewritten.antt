@@ -1,48 +1,68 @@
 -- How the outcome of rewriting follows from what was read and what was written.
-use mathlib.Core.Path.{◌≡◌, sym, ap, ◌∙◌}
-use mathlib.Core.Bool.{Bool, true, not}
+use mathlib.Core.Path.{◌≡◌, refl, sym, ◌∙◌}
+use mathlib.Core.Bool.{Bool, true, false, true≢false}
 use mathlib.Core.List.{List}
 use Prim.Native.Nat.{ℕ}
-use lib.Dec.{eqb, leb}
+use native.Mathlib.Omega.{arith}
+use lib.Dec.{leb}
 use lib.ListN.{length, take}
+use Rattle.std.specs.Prelude.{Result, IsErrAnd, Option, is_some}
+use Rattle.std.specs.Option.{option_zip}
+use Rattle.std.specs.declared.result.Result.TheVariants.{Ok, Err}
+use Rattle.std.specs.declared.option.Option.TheVariants.{None, Some}
+use Rattle.std.specs.Borrow.{Bor}
+use Rattle.refusals.specs.declared.Refusal.{Refusal}
+use Rattle.refusals.specs.Refusals.{number, number_of}
+use Rattle.refusals.proofs.Laws.Outcome.{number_some, no_result, kept}
+use Rattle.image_reader.specs.Reading.{root_number, tree_mark}
 use Rattle.arithmetic.specs.Sum.{pick}
-use Rattle.arithmetic.specs.Table.{result, written}
-use Rattle.arithmetic.proofs.Laws.Bools.{case}
-use Rattle.arithmetic.proofs.Laws.Table.{result_refused, written_refused}
 use Rattle.graph.specs.Graph.{graph}
 use Rattle.image.specs.Image.{has_tree, parent_in}
-use Rattle.image.specs.Contents.{Contents, contents, contents_of}
+use Rattle.image.specs.Contents.{Contents, contents_lent, root_lent, parents_lent, contents_of}
 use Rattle.image_reader.specs.Read.{Lists, Read}
 use Rattle.image_reader.proofs.Laws.Tables.{Wide, refused_anyway, formed, of_vertices, graph_read, amounts_read}
 use Rattle.image_sections.specs.Held.{at_most}
-use Rattle.image_writer.specs.WriteImage.{ImageWritten, SameContents}
-use Rattle.image_writer.proofs.Laws.OneImage.{same_bytes, same_number}
+use Rattle.image_writer.specs.WriteImage.{ImageWritten, SameContents, length_of}
+use Rattle.image_writer.proofs.Laws.OneImage.{same_written}
 use Rattle.image_rewriter.specs.Rewrite.{rewritten, rewrite_refusal, Rewritten}
 use Rattle.image_rewriter.proofs.Laws.Readable.{contents_number}
 use Rattle.image_rewriter.proofs.Laws.ReadBack.{number_formed}
 
--- the image is refused
-pub not-rewritten : {s buffer : List ℕ} {t t' : Lists} {k n m root tree : ℕ} → Read s t k n m root tree t' → Wide t → (k ≡ 0 → ⊥)
-    → Rewritten s buffer k 0 buffer
+-- the image is refused, and `?` hands the refusal on
+pub not-rewritten : {s buffer : List ℕ} {t t' : Lists} {n m root tree : ℕ} (r : Refusal) → Read s t (number r) n m root tree t' → Wide t
+    → (q : Result ℕ Refusal) → IsErrAnd q (λ e. e ≡ r) → Rewritten s buffer (number_of q) (length_of q) buffer
 unfolding rewrite_refusal
-not-rewritten {s} {buffer} {k = k} read w d = record {
-  refusal = refused_anyway s _ w read.refusal d;
-  length_is = result_refused k _ d;
-  buffer_is = written_refused k _ _ d;
-}
+not-rewritten r read w (Ok v) h = absurd h
+not-rewritten {s} {buffer} r read w (Err e) h = rw h (record {
+  refusal = refused_anyway s _ w read.refusal (number_some r);
+  length_is = no_result r _;
+  buffer_is = kept r _ buffer;
+})
 
-module _ {s : List ℕ} {t t' : Lists} {n m root tree : ℕ} (read : Read s t 0 n m root tree t') where
+-- a root that was read, and what the tree's mark says of it
+mark_read : (root : Option ℕ) (b : Bool) (ps : Bor (List ℕ)) → tree_mark root ≡ pick b 1 → is_some (option_zip root (Some ps)) ≡ b
+mark_read None true ps e = absurd (omega arith)
+mark_read None false ps e = refl
+mark_read (Some x) true ps e = refl
+mark_read (Some x) false ps e = absurd (omega arith)
+
+root_read : (root : Option ℕ) (ps : Bor (List ℕ)) → root_lent (option_zip root (Some ps)) ≡ root_number root
+root_read None ps = refl
+root_read (Some x) ps = refl
+
+parents_read : (root : Option ℕ) (ps : Bor (List ℕ)) → is_some (option_zip root (Some ps)) ≡ true → parents_lent (option_zip root (Some ps)) ≡ ps.now
+parents_read None ps e = absurd (true≢false (sym e))
+parents_read (Some x) ps e = refl
+
+module _ {s : List ℕ} {t t' : Lists} {n m : ℕ} (root : Option ℕ) (read : Read s t 0 n m (root_number root) (tree_mark root) t')
+    (ps : Bor (List ℕ)) (is : ps.now ≡ take n t'.parents) where
   -- what is handed to the writer
   abbrev handed : Contents
   handed =
-      contents (graph n (take m t'.lower) (take m t'.upper) (take m t'.lengths)) (take n t'.mu) (take n t'.nu) (not (eqb tree 0)) root
-      (take n t'.parents)
+      contents_lent (graph n (take m t'.lower) (take m t'.upper) (take m t'.lengths)) (take n t'.mu) (take n t'.nu) (option_zip root (Some ps))
 
-  mark_is : not (eqb tree 0) ≡ has_tree s
-  mark_is =
-      case (has_tree s)
-      (λ e. ap (λ (x : ℕ). not (eqb x 0)) (read.tree_is ∙ ap (λ (b : Bool). pick b 1) e) ∙ sym e)
-      (λ e. ap (λ (x : ℕ). not (eqb x 0)) (read.tree_is ∙ ap (λ (b : Bool). pick b 1) e) ∙ sym e)
+  mark_is : handed.tree ≡ has_tree s
+  mark_is = mark_read root (has_tree s) ps read.tree_is
 
   -- it is what the image holds
   same : SameContents handed (contents_of s)
@@ -51,8 +71,8 @@ module _ {s : List ℕ} {t t' : Lists} {n m root tree : ℕ} (read : Read s t 0 
     mu = (amounts_read read).0;
     nu = (amounts_read read).1;
     tree = mark_is;
-    root = λ e. rw (sym mark_is ∙ e) at read.root_is;
-    parents = λ e. of_vertices read (parent_in s) _ _ (rw (sym mark_is ∙ e) at read.parents_are);
+    root = λ e. root_read root ps ∙ (rw (sym mark_is ∙ e) at read.root_is);
+    parents = λ e. parents_read root ps e ∙ is ∙ of_vertices read (parent_in s) _ _ (rw (sym mark_is ∙ e) at read.parents_are);
   }
 
   -- it was written
@@ -61,10 +81,9 @@ module _ {s : List ℕ} {t t' : Lists} {n m root tree : ℕ} (read : Read s t 0 
   unfolding rewrite_refusal
   was_written bytes {buffer} {k = k} w =
       let a = formed read in
+      let d = same_written same w in
       record {
-        refusal =
-            w.refusal ∙ same_number same (length buffer) ∙ contents_number a bytes (length buffer)
-            ∙ sym (number_formed a (leb (length (rewritten s)) (length buffer)));
-        length_is = w.length_is ∙ ap (λ (l : List ℕ). result k (length l)) (same_bytes same);
-        buffer_is = w.buffer_is ∙ ap (λ (l : List ℕ). written k l buffer) (same_bytes same);
+        refusal = d.refusal ∙ contents_number a bytes (length buffer) ∙ sym (number_formed a (leb (length (rewritten s)) (length buffer)));
+        length_is = d.length_is;
+        buffer_is = d.buffer_is;
       }

@@ -13,19 +13,6 @@ use Rattle.directory.specs.Directory.{offset_in, extent_in, end_in, pair_ok}
 use Rattle.image_sequence.specs.Sequence.{image_count, directory_end, image_at, sequence_ok}
 
 module _ (s : List ℕ) where
-  pub no_count : length s < 2 → false ≡ sequence_ok s
-  unfolding sequence_ok
-  no_count h = rw (lt-leb 2 (length s) h)
-
-  pub no_directory : 2 ≤ length s → length s < directory_end s → false ≡ sequence_ok s
-  unfolding sequence_ok
-  no_directory h l = rw (le-leb 2 (length s) h, lt-leb (directory_end s) (length s) l)
-
-  pub by_pairs : 2 ≤ length s → directory_end s ≤ length s → (count d : ℕ) → count ≡ image_count s → d ≡ directory_end s
-      → (r : Bool) → r ≡ all count (pair_ok 2 d s) → r ≡ sequence_ok s
-  unfolding sequence_ok
-  by_pairs h l count d e f r k = rw (le-leb 2 (length s) h, le-leb (directory_end s) (length s) l, ← f, ← e) k
-
   -- the part of the bytes between an image's ends
   pub part_is : (i a e : ℕ) → a ≡ offset_in 2 s i → e ≡ end_in 2 s i → take (e - a) (drop a s) ≡ image_at s i
   part_is i a e f g = let z : e - a ≡ extent_in 2 s i = omega arith in rw (z, f)

@@ -1,15 +1,21 @@
 -- "Two patches with paintings and tree get equal bytes exactly when they are equal."
-use mathlib.Core.Path.{◌≡◌, sym, ap, ◌∙◌}
+use mathlib.Core.Path.{◌≡◌, refl, sym, ap, ◌∙◌}
+use mathlib.Core.Bool.{Bool, true, false, true≢false}
+use mathlib.Core.List.{List}
 use Prim.Native.Nat.{ℕ, zero, suc}
 use lib.ListN.{length}
+use Rattle.std.specs.Prelude.{Option}
+use Rattle.std.specs.Bool.{then_some}
+use Rattle.std.specs.Borrow.{Bor}
+use Rattle.arithmetic.specs.Table.{result, written}
 use Rattle.arithmetic.proofs.Laws.Bools.{case}
 use Rattle.graph.specs.Graph.{Graph}
-use Rattle.image.specs.Contents.{Contents}
+use Rattle.image.specs.Contents.{Contents, contents, contents_lent}
 use Rattle.packed_image.specs.Packed.{packed}
 use Rattle.packed_image.proofs.Laws.Packed.{packed_ext}
 use Rattle.image_sections.specs.SectionBytes.{edge_bytes}
 use Rattle.image_writer.specs.ImageBytes.{section, image_bytes}
-use Rattle.image_writer.specs.WriteImage.{tables_ok, numbers_ok, write_checks, write_refusal, SameContents}
+use Rattle.image_writer.specs.WriteImage.{tables_ok, numbers_ok, write_checks, write_refusal, ImageWritten, SameContents}
 use Rattle.image_writer.proofs.Laws.Accepted.{writable}
 use Rattle.image_writer.proofs.Laws.Contents.{held}
 
@@ -70,6 +76,27 @@ module _ {c d : Contents} (h : SameContents c d) where
   pub same_number : (room : ℕ) → write_refusal c room ≡ write_refusal d room
   unfolding write_checks
   same_number room = rw (tables_same room, numbers_same, h.graph)
+
+  -- ---- its outcome
+  pub same_written : {buffer buffer' : List ℕ} {k long : ℕ} → ImageWritten c buffer k long buffer' → ImageWritten d buffer k long buffer'
+  same_written {buffer} {k = k} w = record {
+    refusal = w.refusal ∙ same_number (length buffer);
+    length_is = w.length_is ∙ ap (λ (l : List ℕ). result k (length l)) same_bytes;
+    buffer_is = w.buffer_is ∙ ap (λ (l : List ℕ). written k l buffer) same_bytes;
+  }
+
+-- a tree that is lent where a mark says so: without it root and parents count for nothing
+lent_same : (g : Graph) (mu nu : List ℕ) (tree : Bool) (root : ℕ) (ps : Bor (List ℕ))
+    → SameContents (contents_lent g mu nu (then_some tree (root, ps))) (contents g mu nu tree root ps.now)
+lent_same g mu nu true root ps = record { graph = refl; mu = refl; nu = refl; tree = refl; root = λ _. refl; parents = λ _. refl }
+lent_same g mu nu false root ps =
+    record { graph = refl; mu = refl; nu = refl; tree = refl; root = λ e. absurd (true≢false (sym e)); parents = λ e. absurd (true≢false (sym e)) }
+
+pub lent_written : {g : Graph} {mu nu : List ℕ} (tree : Bool) (root : ℕ) (ps : Bor (List ℕ)) {lent : Option (ℕ × Bor (List ℕ))}
+    {buffer buffer' : List ℕ} {k long : ℕ} → lent ≡ then_some tree (root, ps)
+    → ImageWritten (contents_lent g mu nu lent) buffer k long buffer'
+    → ImageWritten (contents g mu nu tree root ps.now) buffer k long buffer'
+lent_written {g} {mu} {nu} tree root ps e w = same_written (lent_same g mu nu tree root ps) (rw e at w)
 
 -- for what the writer accepts, whatever room it had
 pub equal_bytes : (c d : Contents) (x y : ℕ) → write_refusal c x ≡ 0 → write_refusal d y ≡ 0

@@ -68,10 +68,6 @@ module _ (c : Contents) where
     unfolding tables_ok
     tables_are = rw length_image
 
-    pub gives_1 : vertices_ok n ≡ false → 1 ≡ write_refusal c room
-    unfolding write_checks size_checks refusal
-    gives_1 h = rw h
-
     module _ (v : vertices_ok n ≡ true) where
       pub gives_2 : lists_ok c.graph && tables_ok c room ≡ false → 2 ≡ write_refusal c room
       unfolding write_checks size_checks refusal

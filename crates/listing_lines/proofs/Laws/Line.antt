@@ -1,11 +1,14 @@
 -- The listing's lines as their writers make them: a line piece by piece, a plan by its next entry; and how long each piece can be.
-use mathlib.Core.Path.{◌≡◌, refl}
+use mathlib.Core.Path.{◌≡◌, refl, ◌∙◌}
 use mathlib.Core.List.{List, [], ◌∷◌, ◌++◌}
-use Prim.Native.Nat.{ℕ, zero, suc, ◌+◌, ◌*◌, ◌^◌, ◌≤◌, ◌<◌}
+use Prim.Native.Nat.{ℕ, zero, suc, ◌+◌, ◌-◌, ◌*◌, ◌^◌, ◌≤◌, ◌<◌}
 use native.Mathlib.Numerals.{add-one}
 use native.Mathlib.Omega.{arith}
-use lib.ListN.{length, length-append}
+use lib.ListN.{length, take, drop, length-append, length-drop}
+use lib.Seq.{length-take-le, get_or-take, get_or-drop}
 use borrow.Author.Tests.{lt-ltb}
+use Rattle.arithmetic.specs.Table.{at}
+use Rattle.arithmetic.specs.Steps.Table.{cell}
 use Rattle.decimal_text.specs.Decimal.{decimal}
 use Rattle.decimal_text.specs.Steps.Wrote.{Wrote}
 use Rattle.decimal_text.proofs.Laws.Decimal.{length-decimal}
@@ -87,6 +90,14 @@ row_ext : (f g : ℕ → ℕ) (i m : ℕ) → ((j : ℕ) → j < m → f j ≡ g
 unfolding row_lines
 row_ext f g i zero h = refl
 row_ext f g i (suc m) h = rw (row_ext f g i m (λ j l. h j (omega arith)), h m (omega arith))
+
+-- a row as the part of the table that was handed on
+pub row_part : (n i : ℕ) (plan : List ℕ) → i * n + n ≤ length plan → length (take (i * n + n - i * n) (drop (i * n) plan)) ≡ n
+row_part n i plan h = length-take-le _ _ (omega (arith, length-drop (i * n) plan)) ∙ omega arith
+
+pub row_handed : (n i : ℕ) (plan : List ℕ) {k : ℕ} → k ≡ n → row_lines (at (take (i * n + n - i * n) (drop (i * n) plan))) i k ≡ row_lines (cell n plan i) i n
+row_handed n i plan e =
+    rw e (row_ext _ _ i n (λ j l. get_or-take (i * n + n - i * n) (drop (i * n) plan) j 0 (omega arith) ∙ get_or-drop (i * n) plan j 0))
 
 -- the plan's lines by its entries
 pub plan_ext : (t s : ℕ → ℕ → ℕ) (n k : ℕ) → ((i j : ℕ) → i < k → j < n → t i j ≡ s i j) → plan_lines t n k ≡ plan_lines s n k

@@ -1,66 +1,49 @@
 -- Numbers in bytes as code stores them, and tables and sections filled with them.
-use mathlib.Core.Path.{◌≡◌, refl, sym, ap, ◌∙◌}
-use mathlib.Core.List.{List, [], ◌∷◌, ◌++◌}
-use Prim.Native.Nat.{ℕ, suc, ◌+◌, ◌*◌, ◌/◌, ◌%◌, ◌≤◌, ◌<◌}
+use mathlib.Core.Path.{◌≡◌, refl, sym, ◌∙◌}
+use mathlib.Core.List.{List, ◌++◌, append_assoc}
+use Prim.Native.Nat.{ℕ, zero, suc, ◌+◌, ◌-◌, ◌*◌, ◌≤◌, ◌<◌}
 use native.Mathlib.Numerals.{add-one}
-use native.Mathlib.Nat.{div-one, div-add-mod, div-div-eq-div-mul, add-mul-div_left, add-mul-mod_self_left}
+use native.Mathlib.Nat.{div-one}
 use native.Mathlib.Omega.{arith}
-use lib.ListN.{length, set}
-use lib.Seq.{sets-eq}
-use Rattle.arithmetic.specs.Table.{tab, rows, appended, written}
+use lib.ListN.{length, set, take}
+use lib.Seq.{drop-drop}
+use borrow.Rule.Slice.PartMut.{post_of}
+use Rattle.std.specs.Int.{w64, byte_at, bytes_low_first, to_le_bytes}
+use Rattle.std.proofs.lemmas.List.{length-take-le, get_or-take}
+use Rattle.arithmetic.specs.Table.{at, tab, rows, appended, written}
 use Rattle.arithmetic.proofs.Laws.Sum.{sum_same}
-use Rattle.arithmetic.proofs.Laws.Table.{length-tab, length-rows}
+use Rattle.arithmetic.proofs.Laws.Table.{length-tab, tab_is, length-rows}
 use Rattle.arithmetic.proofs.Laws.Appended.{length-appended}
 use Rattle.little_endian.specs.LittleEndian.{byte_of, fields}
 use Rattle.little_endian.specs.Steps.Buffer.{placed}
 use Rattle.little_endian.proofs.Laws.Buffer.{Placing}
-use Rattle.little_endian.proofs.Laws.Placed.{placed_one, placed_then, placed_front, placing_none, placing_more, placing_end}
+use Rattle.little_endian.proofs.Laws.Placed.{placed_one, placed_front, placing_none, placing_more, placing_end}
 
 -- ---- a number's bytes
-pub one_store : (p x : ℕ) (l : List ℕ) → p < length l → set l p (x % 256) ≡ placed p (tab 1 (byte_of x)) l
-unfolding tab byte_of
-one_store p x l h = rw (div-one x) (placed_one p (x % 256) l h)
+byte_is : (x i : ℕ) → byte_at i x ≡ byte_of x i
+unfolding byte_of
+byte_is x zero = rw (div-one x)
+byte_is x (suc i) = refl
 
-pub two_stores : (p x : ℕ) (l : List ℕ) → p + 2 ≤ length l
-    → set (set l p (x % 256)) (p + 1) (x / 256 % 256) ≡ placed p (tab 2 (byte_of x)) l
-unfolding tab byte_of placed
-two_stores p x l h = let e : p + 1 ≡ suc p = omega arith in rw (div-one x, e) (sets-eq (x % 256 ∷ x / 256 % 256 ∷ []) l p h)
+low_byte : (x i m k : ℕ) → k < m → at (bytes_low_first i m x) k ≡ byte_of x (i + k)
+low_byte x i zero k h = absurd (omega arith)
+low_byte x i (suc m) zero h = let e : i + 0 ≡ i = omega arith in rw e (byte_is x i)
+low_byte x i (suc m) (suc k) h = let e : i + suc k ≡ suc i + k = omega arith in rw e (low_byte x (suc i) m k (omega arith))
 
-pub four_stores : (p x : ℕ) (l : List ℕ) → p + 4 ≤ length l
-    → set (set (set (set l p (x % 256)) (p + 1) (x / 256 % 256)) (p + 2) (x / 65536 % 256)) (p + 3) (x / 16777216 % 256)
-    ≡ placed p (tab 4 (byte_of x)) l
-unfolding tab byte_of placed
-four_stores p x l h =
-    let e : p + 1 ≡ suc p = omega arith in
-    let f : p + 2 ≡ suc (suc p) = omega arith in
-    let g : p + 3 ≡ suc (suc (suc p)) = omega arith in
-    rw (div-one x, e, f, g)
-    (sets-eq (x % 256 ∷ x / 256 % 256 ∷ x / 65536 % 256 ∷ x / 16777216 % 256 ∷ []) l p h)
+low_bytes : (x n : ℕ) → n ≤ 8 → take n (to_le_bytes w64 x) ≡ tab n (byte_of x)
+low_bytes x n h =
+    sym (tab_is n (byte_of x) (take n (to_le_bytes w64 x)) (length-take-le n _ h)
+    (λ i k.
+    let e : 0 + i ≡ i = omega arith in
+    sym (get_or-take n (to_le_bytes w64 x) i 0 k ∙ (rw e at (low_byte x 0 8 i (omega arith))))))
 
--- the bytes of a number's lower half are its own
-lower : (d c x : ℕ) → 0 < d → x % (d * (256 * c)) / d % 256 ≡ x / d % 256
-lower d c x h =
-    let q = x / (d * (256 * c)) in
-    let r = x % (d * (256 * c)) in
-    let e : x ≡ r + d * (256 * (c * q)) = omega (arith, div-add-mod x (d * (256 * c))) in
-    sym (ap (λ (y : ℕ). y / d % 256) e ∙ ap (λ (y : ℕ). y % 256) (add-mul-div_left r (256 * (c * q)) h) ∙ add-mul-mod_self_left (r / d) 256 (c * q))
-
--- eight bytes are two words
-halves : (x : ℕ) → tab 4 (byte_of (x % 4294967296)) ++ tab 4 (byte_of (x / 4294967296)) ≡ tab 8 (byte_of x)
-unfolding tab byte_of
-halves x =
-    rw (
-      lower 1 16777216 x (omega arith),
-      lower 256 65536 x (omega arith),
-      lower 65536 256 x (omega arith),
-      lower 16777216 1 x (omega arith),
-    ) (simp (div-one, div-div-eq-div-mul))
-
-pub two_words : (p x : ℕ) (l m o : List ℕ) → p + 8 ≤ length l → m ≡ placed p (tab 4 (byte_of (x % 4294967296))) l
-    → o ≡ placed (p + 4) (tab 4 (byte_of (x / 4294967296))) m → o ≡ placed p (tab 8 (byte_of x)) l
-two_words p x l m o h e f =
-    let k = length-tab 4 (byte_of (x % 4294967296)) in
-    rw (← halves x) (placed_then p (p + 4) _ _ l m o (omega arith) (omega arith) e f)
+-- copied into the buffer
+pub stored : (p n x : ℕ) (l y w : List ℕ) → n ≤ 8 → w ≡ to_le_bytes w64 x → y ≡ take n w
+    → take p l ++ (y ++ post_of p (p + n - p) l) ≡ placed p (tab n (byte_of x)) l
+unfolding placed
+stored p n x l y w h d e =
+    let k : p + n - p ≡ n = omega arith in
+    rw (e, d, low_bytes x n h, length-tab n (byte_of x), k, drop-drop, append_assoc)
 
 -- ---- a lent table that is filled from the front
 module _ (f : ℕ → ℕ) {n : ℕ} {lent : List ℕ} where

@@ -1,5 +1,5 @@
 -- The search: the first basis is improved by pivots until the potential violates no edge; what is left is a certificate.
-use Prim.Native.Nat.{ℕ, ◌*◌, ◌^◌, ◌≤◌, ◌<◌}
+use Prim.Native.Nat.{ℕ, ◌*◌, ◌^◌, ◌<◌}
 use mathlib.Core.Path.{◌≡◌, sym, ap, ◌∙◌}
 use mathlib.Core.List.{List}
 use native.Mathlib.Omega.{arith}
@@ -14,9 +14,9 @@ use Rattle.rooted_tree.specs.Steps.Subtotal.{inner}
 use Rattle.rooted_tree.specs.Steps.Flow.{flow_cost}
 use Rattle.rooted_tree.proofs.Laws.Rooted.{depth-lt}
 use Rattle.rooted_tree.proofs.Laws.Flow.{tree_strong, agrees_near}
-use Rattle.graph.specs.Graph.{Graph, edges, edge_length}
+use Rattle.graph.specs.Graph.{Graph, edge_length}
 use Rattle.graph.specs.SpanningTree.{SpanningTree}
-use Rattle.tree_pivot.specs.Steps.Basis.{Basis, Tables}
+use Rattle.tree_pivot.specs.Steps.Basis.{IsBasis, Tables}
 use Rattle.tree_pivot.specs.Steps.PivotBasis.{basis_flow_cost}
 use Rattle.tree_pivot.proofs.Laws.PivotPotential.{near_root}
 use Rattle.spanning_tree.specs.TreeValue.{parents_held}
@@ -24,15 +24,14 @@ use Rattle.spanning_tree.proofs.Laws.TreeValue.{held_at}
 use Rattle.duality.specs.Steps.Best.{Certificate}
 use Rattle.duality.proofs.Laws.Agree.{certificate_same}
 use Rattle.duality.proofs.Laws.Best.{certificate_of_flow}
-use Rattle.pricing.specs.Steps.Entering.{MostViolated}
 use Rattle.first_basis.specs.Steps.Perturbed.{supply_of, demand_of}
 use Rattle.first_basis.specs.Steps.FirstBasis.{CanStart}
 use Rattle.first_basis.proofs.Laws.Perturbed.{true-agrees}
 use Rattle.first_basis.proofs.Laws.FirstBasis.{vertices}
-use Rattle.network_simplex.specs.Steps.Search.{CanSearch, Improved, Optimal, Optimized, BestTree}
+use Rattle.network_simplex.specs.Steps.Search.{CanSearch, Improved, Optimal, BestTree}
 
 -- a potential is no further from the offset than 63 edges are long
-pub potential_small : {g : Graph} {m v : ℕ → ℕ} {t : Tables} → Basis g m v t → EachBelow g.n (at t.potential) (2 ^ 24)
+pub potential_small : {g : Graph} {m v : ℕ → ℕ} {t : Tables} → IsBasis g m v t → EachBelow g.n (at t.potential) (2 ^ 24)
 potential_small {t = t} basis x l =
     omega (
       arith,
@@ -51,13 +50,13 @@ potential_small {t = t} basis x l =
 
 -- whatever masses the tables are a basis of, they still are one
 abbrev pub Kept : Graph → (t t' : Tables) → Type 0
-Kept g t t' = (m v : ℕ → ℕ) → Basis g m v t → Basis g m v t'
+Kept g t t' = (m v : ℕ → ℕ) → IsBasis g m v t → IsBasis g m v t'
 
 -- the cost, from the tables
 abbrev pub basis_cost : ℕ → (above supply demand : List ℕ) → ℕ
 basis_cost n above supply demand = sum n (λ x. inner 0 x (at above x * gap (at supply x) (at demand x)))
 
-basis-cost : {g : Graph} {m v : ℕ → ℕ} {t : Tables} → Basis g m v t → basis_cost g.n t.above t.supply t.demand ≡ basis_flow_cost g m v t
+basis-cost : {g : Graph} {m v : ℕ → ℕ} {t : Tables} → IsBasis g m v t → basis_cost g.n t.above t.supply t.demand ≡ basis_flow_cost g m v t
 unfolding flow_cost
 basis-cost {g} basis =
     sum_ext g.n _ _ (λ x l. case≡ x 0
@@ -77,12 +76,6 @@ module _ {g : Graph} {t₀ t : Tables} (can : CanSearch g t₀) (kept : Kept g t
         let basis = search_state.basis in
         let c = better can.m can.v basis in
         omega (arith, basis-cost basis, basis-cost c.basis, c.cheaper)
-
-  pub search_ends : {e : ℕ} → MostViolated g t.potential e → edges g ≤ e → Optimized g t₀ t
-  search_ends {e} enters l m v b = record {
-    basis = kept m v b;
-    within = λ i h. case≡ e (edges g) (λ d. omega (arith, enters.none d i (omega arith) h h)) (λ d. absurd (omega (arith, enters.some d)));
-  }
 
 module _ {g : Graph} {mu nu parents edge : List ℕ} (can : CanStart g mu nu parents edge)
     {t : Tables} (best : Optimal g (supply_of (at mu)) (demand_of g.n (at nu)) t) where

@@ -4,7 +4,7 @@ use Rattle.arithmetic.specs.Table.{at}
 use Rattle.arithmetic.specs.Steps.Table.{EachBelow}
 use Rattle.graph.specs.Graph.{Graph, edges, edge_length}
 use Rattle.graph.specs.Steps.Accepted.{Accepted}
-use Rattle.tree_pivot.specs.Steps.Basis.{Basis, Tables}
+use Rattle.tree_pivot.specs.Steps.Basis.{IsBasis, Tables}
 use Rattle.tree_pivot.specs.Steps.PivotBasis.{CheaperBasis}
 use Rattle.duality.specs.Steps.Best.{Certificate}
 use Rattle.pricing.specs.Steps.Entering.{violation_at}
@@ -14,20 +14,20 @@ pub record CanSearch (g : Graph) (t : Tables) : Type 0 where
   pub accepted : Accepted g
   pub m : ℕ → ℕ
   pub v : ℕ → ℕ
-  pub basis : Basis g m v t
+  pub basis : IsBasis g m v t
 
 -- whatever masses the tables are a basis of, they have become a cheaper one
 abbrev pub Improved : Graph → (t t' : Tables) → Type 0
-Improved g t t' = (m v : ℕ → ℕ) → Basis g m v t → CheaperBasis g m v t t'
+Improved g t t' = (m v : ℕ → ℕ) → IsBasis g m v t → CheaperBasis g m v t t'
 
 -- a basis whose potential violates no edge
 pub record Optimal (g : Graph) (m v : ℕ → ℕ) (t : Tables) : Type 0 where
-  pub basis : Basis g m v t
+  pub basis : IsBasis g m v t
   pub within : (e : ℕ) → e < edges g → violation_at g t.potential e ≡ 0
 
 -- whatever masses the tables are a basis of, they have become an optimal one
 abbrev pub Optimized : Graph → (t t' : Tables) → Type 0
-Optimized g t t' = (m v : ℕ → ℕ) → Basis g m v t → Optimal g m v t'
+Optimized g t t' = (m v : ℕ → ℕ) → IsBasis g m v t → Optimal g m v t'
 
 -- ---- the certificate
 

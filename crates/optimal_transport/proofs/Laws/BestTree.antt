@@ -13,7 +13,7 @@ use Rattle.graph.proofs.Laws.Edge.{edge_length_most}
 use Rattle.tree_checks.proofs.Laws.TreeTests.{spanning_rooted}
 use Rattle.tree_figures.specs.Figures.{tree_cost}
 use Rattle.tree_figures.specs.Steps.Tables.{LengthsTo}
-use Rattle.tree_evaluation.specs.Steps.EvaluateTree.{Evaluable, TreeEvaluated}
+use Rattle.tree_evaluation.specs.Steps.EvaluateTree.{Weighted, Evaluable, TreeEvaluated}
 use Rattle.tree_evaluation.proofs.Laws.GivenTree.{measures_of}
 use Rattle.duality.specs.Best.{Best}
 use Rattle.duality.specs.BestCost.{best_cost}
@@ -52,9 +52,8 @@ module _ {g : Graph} {mu₀ nu₀ : List ℕ} (problem : TransportProblem g mu�
   found_few = (omega (arith, vertices_in g.n problem.accepted.vertices, found.vertices_are), found.vertices_are)
 
   module _ {mu nu : List ℕ} (before : Painting g.n problem.total mu) (after : Painting g.n problem.total nu) where
-    pub found_evaluable : {imbalances : List ℤ} {entries : List ℕ} → g.n ≤ length imbalances → g.n * g.n ≤ length entries
-        → Evaluable n r parents above mu nu imbalances entries
-    found_evaluable i e = record {
+    pub found_weighted : {imbalances : List ℤ} → g.n ≤ length imbalances → Weighted n r parents above mu nu imbalances
+    found_weighted i = record {
       few = found_few.0;
       tree = rw (found.vertices_are, found.root_is) (spanning_rooted g 0 (at parents) problem.accepted.edges found.certificate.spanning);
       long_above = omega (arith, found_few.0, found.above_size);
@@ -65,8 +64,21 @@ module _ {g : Graph} {mu₀ nu₀ : List ℕ} (problem : TransportProblem g mu�
       );
       measures = measures_of found.vertices_are before after;
       room_imbalance = omega (arith, i, found.vertices_are);
-      room_plan = rw found.vertices_are e;
     }
+
+    pub found_evaluable : {imbalances : List ℤ} {entries : List ℕ} → g.n ≤ length imbalances → g.n * g.n ≤ length entries
+        → Evaluable n r parents above mu nu imbalances entries
+    found_evaluable {imbalances} i e =
+        let t = found_weighted {imbalances = imbalances} i in
+        record {
+          few = t.few;
+          tree = t.tree;
+          long_above = t.long_above;
+          short = t.short;
+          measures = t.measures;
+          room_imbalance = t.room_imbalance;
+          room_plan = rw found.vertices_are e;
+        }
 
 -- for its own paintings it is the best
 module _ {g : Graph} {mu nu : List ℕ} (problem : TransportProblem g mu nu) {n r : ℕ} {parents above u : List ℕ}

@@ -8,12 +8,6 @@ use Rattle.optimal_transport.proofs.write_potential.Goals as goal
 pub loop-y-init : goal.loop-y-init
 loop-y-init c = filling_none _ _ (omega arith)
 
-pub difference-requires : goal.difference-requires
-difference-requires c =
-    let of-y = c.requires.small c.loop-y.y (omega arith) in
-    let of-0 = c.requires.small 0 (omega arith) in
-    (omega (arith, of-y, of-0), omega (arith, of-y, of-0))
-
 pub loop-y-preserved : goal.loop-y-preserved
 loop-y-preserved c =
     filling_more c.loop-y.invariant (omega arith)

@@ -1,4 +1,3 @@
-use Prim.Native.Nat.{◌-◌}
 use lib.IntN.{sub_ℕ}
 use Rattle.arithmetic.specs.Table.{at}
 use Rattle.arithmetic.specs.Steps.Fill.{Filling}
@@ -6,6 +5,3 @@ use Rattle.optimal_transport.proofs.write_potential.Given as goal
 
 abbrev pub invariant-loop-y : goal.invariant-loop-y
 invariant-loop-y l = Filling l.n (λ z. sub_ℕ (at l.u z) (at l.u 0)) l.initial.potential l.potential l.y
-
-abbrev pub decreases-loop-y : goal.decreases-loop-y
-decreases-loop-y l = l.n - l.y

@@ -1,4 +1,3 @@
-use Prim.Native.Nat.{◌-◌}
 use mathlib.Core.Path.{◌≡◌}
 use lib.ListN.{length}
 use Rattle.arithmetic.specs.Table.{at, appended}
@@ -8,6 +7,3 @@ use Rattle.packed_image.proofs.write_pairs.Given as goal
 
 abbrev pub invariant-loop-t : goal.invariant-loop-t
 invariant-loop-t l = Placing 0 (length l.lengths) (λ i. appended i (pair (length l.lengths) (at l.lengths))) l.initial.out l.t l.out × (l.start ≡ start_of (length l.lengths) (at l.lengths) l.t)
-
-abbrev pub decreases-loop-t : goal.decreases-loop-t
-decreases-loop-t l = length l.lengths - l.t

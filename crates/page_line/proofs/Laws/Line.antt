@@ -1,18 +1,18 @@
 -- The line of a vertex as its writers make it, piece by piece; and the columns of each piece.
-use mathlib.Core.Path.{◌≡◌, refl}
+use mathlib.Core.Path.{◌≡◌, refl, ◌∙◌}
 use mathlib.Core.List.{List, [], ◌∷◌, ◌++◌}
 use Prim.Native.Nat.{ℕ, ◌+◌, ◌-◌, ◌/◌, ◌%◌, ◌≤◌, ◌<◌}
-use native.Mathlib.Numerals.{add-one}
 use native.Mathlib.Omega.{arith}
 use lib.IntN.{ℤ}
-use lib.ListN.{length, set, length-append}
-use Rattle.arithmetic.specs.Table.{tab}
+use lib.ListN.{length, take, drop, length-append, length-drop}
+use lib.Seq.{length-take-le}
+use borrow.Rule.Slice.PartMut.{put_mid}
+use Rattle.std.specs.Prelude.{replicate}
+use Rattle.arithmetic.proofs.Laws.Slices.{replicate_tab}
 use Rattle.arithmetic.proofs.Laws.Table.{length-tab}
-use Rattle.little_endian.proofs.Laws.Buffer.{Placing}
-use Rattle.little_endian.proofs.Laws.Placed.{placed_one, placing_none, placing_more, placing_end}
 use Rattle.decimal_text.specs.Decimal.{signed_decimal}
 use Rattle.decimal_text.specs.Steps.Wrote.{Wrote}
-use Rattle.decimal_text.proofs.Laws.Wrote.{wrote_length, wrote_then}
+use Rattle.decimal_text.proofs.Laws.Wrote.{wrote_length, wrote_then, word_wrote}
 use Rattle.page_line.specs.Line.{spaces, two_digits, up_to, right_aligned, vertex_line}
 
 -- ---- spaces
@@ -20,20 +20,13 @@ pub length-spaces : (k : ℕ) → length (spaces k) ≡ k
 unfolding spaces
 length-spaces k = length-tab k (λ _. 32)
 
-module _ {from n : ℕ} {lent : List ℕ} where
-  pub spaces_none : Placing from n spaces lent 0 lent
-  unfolding spaces tab
-  spaces_none = placing_none refl
-
-  pub spaces_more : {i : ℕ} {m : List ℕ} → Placing from n spaces lent i m → i < n → from + n ≤ length lent
-      → Placing from n spaces lent (i + 1) (set m (from + i) 32)
-  unfolding spaces tab
-  spaces_more {i} {m} w h room =
-      placing_more (32 ∷ []) w h (rw (add-one i)) (rw (length-spaces i) refl) (omega arith)
-      (placed_one (from + i) 32 m (omega (arith, w.long)))
-
-  pub spaces-end : {i : ℕ} {m : List ℕ} → Placing from n spaces lent i m → n ≤ i → Wrote from (spaces n) lent m (from + n)
-  spaces-end w h = record { next_is = omega (arith, length-spaces n); out_is = placing_end w h }
+-- a part of the buffer was filled
+pub spaces_wrote : (from n : ℕ) (l : List ℕ) {m : List ℕ} → from + n ≤ length l → m ≡ replicate (length (take (from + n - from) (drop from l))) 32
+    → Wrote from (spaces n) l (put_mid from (from + n - from) l m) (from + n)
+unfolding spaces
+spaces_wrote from n l {m} h e =
+    let k : length (take (from + n - from) (drop from l)) ≡ n = length-take-le _ _ (omega (arith, length-drop from l)) ∙ omega arith in
+    rw (e, k, replicate_tab n 32) (rw (length-spaces n) at (word_wrote from (spaces n) l))
 
 -- ---- columns
 length_two : (v : ℕ) → length (two_digits v) ≡ 2

@@ -1,18 +1,18 @@
 -- The laws of labelled trees: what it takes to hang a vertex elsewhere, what a sweep of the edges and a round of sweeps do, and what is known at the end.
 use Prim.Native.Nat.{ℕ, ◌+◌, ◌*◌, ◌≤◌, ◌<◌}
 use mathlib.Core.Path.{◌≡◌, refl, sym, ap, ◌∙◌}
-use mathlib.Core.Bool.{Bool, true, false, cond}
+use mathlib.Core.Bool.{Bool, true, false, ◌||◌, or-true, or-false}
 use mathlib.Core.List.{List}
 use mathlib.Core.Logic.{inl, inr}
 use native.Mathlib.Omega.{arith}
 use lib.Dec.{ltb}
 use lib.ListN.{length, set, length-set}
 use lib.Seq.{get_or-set_same, get_or-set_other}
-use borrow.Author.Tests.{lt-ltb, le-ltb, ltb-true, ltb-false}
-use borrow.Author.Count.{below_none, below_more}
+use borrow.Author.Tests.{lt-ltb, ltb-true, ltb-false}
 use Rattle.arithmetic.specs.Bools.{all}
 use Rattle.arithmetic.specs.Sum.{pick, sum}
 use Rattle.arithmetic.specs.Table.{at}
+use Rattle.arithmetic.specs.Steps.Fill.{Filled}
 use Rattle.arithmetic.proofs.Laws.Bools.{all-at, all_missed, case, case≡, clash}
 use Rattle.arithmetic.proofs.Laws.Sum.{sum_lt}
 use Rattle.rooted_tree.specs.Chain.{depth}
@@ -39,35 +39,16 @@ module _ {g : Graph} (f : WellFormed g) where
 
 -- ---- the start
 
--- the first i vertices hang on r, and are not reached
-pub record InitializedTo (r i : ℕ) (p labels p' labels' : List ℕ) : Type 0 where
-  pub parents_size : length p' ≡ length p
-  pub labels_size : length labels' ≡ length labels
-  pub parents : (v : ℕ) → v < i → at p' v ≡ r
-  pub others : (v : ℕ) → v < i → at labels' v ≡ unreached
-
-pub initialized_none : (r : ℕ) (p labels : List ℕ) → InitializedTo r 0 p labels p labels
-initialized_none r p labels = record { parents_size = refl; labels_size = refl; parents = below_none _; others = below_none _ }
-
-module _ (r i : ℕ) {p labels p' labels' : List ℕ} (w : InitializedTo r i p labels p' labels') where
-  pub initialized_more : i < length p' → i < length labels' → InitializedTo r (i + 1) p labels (set p' i r) (set labels' i unreached)
-  initialized_more lp ll = record {
-    parents_size = length-set p' i r ∙ w.parents_size;
-    labels_size = length-set labels' i unreached ∙ w.labels_size;
-    parents = below_more (λ v. at (set p' i r) v ≡ r) i (λ v l. get_or-set_other p' i v r 0 (omega arith) ∙ w.parents v l) (get_or-set_same p' i r 0 lp);
-    others =
-        below_more (λ v. at (set labels' i unreached) v ≡ unreached) i
-        (λ v l. get_or-set_other labels' i v unreached 0 (omega arith) ∙ w.others v l) (get_or-set_same labels' i unreached 0 ll);
-  }
-
-  pub initialized_end : 64 ≤ i → r < length labels' → Initialized r p labels p' (set labels' r 0)
-  initialized_end h l = record {
-    parents_size = w.parents_size;
-    labels_size = length-set labels' r 0 ∙ w.labels_size;
-    parents = λ v k. w.parents v (omega arith);
-    origin = get_or-set_same labels' r 0 0 l;
-    others = λ v k d. get_or-set_other labels' r v 0 0 d ∙ w.others v (omega arith);
-  }
+-- the first 64 vertices hang on r, and r alone is reached
+pub initialized : (r : ℕ) {p labels p' labels' : List ℕ} → r < 64 → 64 ≤ length labels → Filled 64 (λ _. r) p p' → Filled 64 (λ _. unreached) labels labels'
+    → Initialized r p labels p' (set labels' r 0)
+initialized r {labels' = labels'} l room hung far = record {
+  parents_size = hung.size;
+  labels_size = length-set labels' r 0 ∙ far.size;
+  parents = hung.each;
+  origin = get_or-set_same labels' r 0 0 (omega (arith, far.size));
+  others = λ v k d. get_or-set_other labels' r v 0 0 d ∙ far.each v k;
+}
 
 pub first_labelled : {g : Graph} {r : ℕ} {p s labels p' labels' : List ℕ} → CanFindPaths g r p s labels → Initialized r p labels p' labels' → Labelled g r p' s labels'
 first_labelled {g} {r} can w =
@@ -185,18 +166,7 @@ module _ {g : Graph} {r : ℕ} {p s labels : List ℕ} (m : Labelled g r p s lab
         holds = ltb-false _ _ (sym t.did);
       })
 
--- ---- one store
-module _ (x y e w : ℕ) (p s labels : List ℕ) where
-  pub passed : at labels y ≤ at labels x + w → Relaxed x y e w p s labels false p s labels
-  passed h = record { did = rw (le-ltb (at labels x + w) (at labels y) h); parents = refl; edges = refl; lowered = refl }
-
-  pub lowered : (near : ℕ) → near ≡ at labels x + w → near < at labels y → Relaxed x y e w p s labels true (set p y x) (set s y e) (set labels y near)
-  lowered near q h = record { did = rw (lt-ltb (at labels x + w) (at labels y) (omega arith)); parents = refl; edges = refl; lowered = rw q }
-
 -- ---- edges one after the other, one way
-swept_none : {g : Graph} {root : ℕ} {from to p s labels : List ℕ} → Labelled g root p s labels → (i : ℕ) → Swept g root from to i i p s labels false p s labels
-swept_none m i = record { labelled = m; less = omega arith; same = λ _. refl; feasible = λ e l h. absurd (omega arith) }
-
 -- the edges go from the ends in one list to those in the other
 record Way (g : Graph) (from to : List ℕ) : Type 0 where
   pub size : (length from ≡ edges g) × (length to ≡ edges g)
@@ -245,46 +215,40 @@ module _ {g : Graph} {root : ℕ} {from to : List ℕ} (way : Way g from to) whe
         (λ z. rw z (omega (arith, step_lowers.holds, rw z at o)))
         (λ z. let q = rest e le he z in omega (arith, o, step_lowers.lower (at to e), k.feasible e q.0 q.1))
 
-    swept_more : (r' : Bool) → r' ≡ cond d true r → Swept g root from to lo' hi' p s labels r' p' s' labels'
-    swept_more r' q = record {
+    swept_more : Swept g root from to lo' hi' p s labels (r || d) p' s' labels'
+    swept_more = record {
       labelled = step_lowers.labelled;
       less =
           case d
-          (λ z. rw (q, z) (omega (arith, rw z at step_lowers.less, k.less)))
-          (λ z. rw (q, step_lowers.same z, z) k.less);
-      same = λ f. case d (λ z. clash (q ∙ rw z) f) (λ z. step_lowers.same z ∙ k.same (sym (q ∙ rw z) ∙ f));
+          (λ z. rw (z, or-true r) (omega (arith, rw z at step_lowers.less, k.less)))
+          (λ z. rw (z, or-false r, step_lowers.same z) k.less);
+      same = λ f. case d (λ z. clash (or-true r) (rw z at f)) (λ z. step_lowers.same z ∙ k.same (sym (or-false r) ∙ rw z at f));
       feasible = still_feasible;
     }
 
 -- ---- a sweep upward
-pub up_none : (a b lengths p s labels : List ℕ) → SweepsUp a b lengths 0 p s labels false p s labels
-up_none a b lengths p s labels n root m = swept_none m 0
-
 module _ {a b lengths p s labels : List ℕ} {i : ℕ} {r : Bool} {p₁ s₁ labels₁ : List ℕ} (k : SweepsUp a b lengths i p s labels r p₁ s₁ labels₁)
     (l : i < length a) where
   pub up_can : SomeLabelled a b lengths p s labels → CanRelax a b lengths i p₁ s₁ labels₁
   up_can z = let m = z.1.1 in can_relax (upward m.can.formed) (k _ _ m).labelled i l
 
   pub up_more : {d : Bool} {p' s' labels' : List ℕ} → Relaxed (at a i) (at b i) i (weight_of (at lengths i)) p₁ s₁ labels₁ d p' s' labels'
-      → (r' : Bool) → r' ≡ cond d true r → SweepsUp a b lengths (i + 1) p s labels r' p' s' labels'
-  up_more t r' c n root m =
+      → SweepsUp a b lengths (i + 1) p s labels (r || d) p' s' labels'
+  up_more t n root m =
       let f = m.can.formed in
-      swept_more (upward f) (k n root m) i l 0 (i + 1) (λ e _ h. up_apart f i e (omega arith) l) (λ e g h d. (omega arith, omega arith)) t r' c
+      swept_more (upward f) (k n root m) i l 0 (i + 1) (λ e _ h. up_apart f i e (omega arith) l) (λ e g h d. (omega arith, omega arith)) t
 
 -- ---- a sweep downward
-pub down_none : (a b lengths p s labels : List ℕ) → SweepsDown a b lengths (length a) p s labels false p s labels
-down_none a b lengths p s labels n root m = swept_none m (length a)
-
 module _ {a b lengths p s labels : List ℕ} {e : ℕ} {r : Bool} {p₁ s₁ labels₁ : List ℕ} (k : SweepsDown a b lengths e p s labels r p₁ s₁ labels₁)
     (i : ℕ) (q : e ≡ i + 1) (l : i < length a) where
   pub down_can : SomeLabelled a b lengths p s labels → CanRelax b a lengths i p₁ s₁ labels₁
   down_can z = let m = z.1.1 in can_relax (downward m.can.formed) (k _ _ m).labelled i l
 
   pub down_more : {d : Bool} {p' s' labels' : List ℕ} → Relaxed (at b i) (at a i) i (weight_of (at lengths i)) p₁ s₁ labels₁ d p' s' labels'
-      → (r' : Bool) → r' ≡ cond d true r → SweepsDown a b lengths i p s labels r' p' s' labels'
-  down_more t r' c n root m =
+      → SweepsDown a b lengths i p s labels (r || d) p' s' labels'
+  down_more t n root m =
       let f = m.can.formed in
-      swept_more (downward f) (k n root m) i l i (length a) (down_apart f i) (λ x g h d. (omega arith, omega arith)) t r' c
+      swept_more (downward f) (k n root m) i l i (length a) (down_apart f i) (λ x g h d. (omega arith, omega arith)) t
 
 -- ---- a round: a sweep down that lowers no label, or one down and one up
 module _ {a b lengths p s labels : List ℕ} {r : Bool} {p₁ s₁ labels₁ : List ℕ} (k : SweepsDown a b lengths 0 p s labels r p₁ s₁ labels₁) where

@@ -1,17 +1,21 @@
-use mathlib.Core.Path.{sym}
-use native.Mathlib.Omega.{arith}
-use borrow.Author.Tests.{lt-ltb, le-ltb}
-use Rattle.arithmetic.proofs.Laws.Bools.{all_none, all_more, all_fails, all_end}
+use mathlib.Core.Path.{◌≡◌, ap, ◌∙◌}
+use mathlib.Core.List.{List}
+use Prim.Native.Nat.{ℕ}
+use lib.Dec.{ltb}
+use lib.ListN.{length, take}
+use Rattle.std.proofs.lemmas.List.{length-take-le, get_or-take}
+use Rattle.std.proofs.Common.{rules}
+use Rattle.arithmetic.specs.Bools.{all}
+use Rattle.arithmetic.specs.Table.{at}
+use Rattle.arithmetic.proofs.Laws.Bools.{all_ext}
+use Rattle.arithmetic.proofs.Laws.Slices.{all_entries}
+use Rattle.path_labels.specs.Steps.Weight.{unreached}
 use Rattle.path_labels.proofs.all_reached.Goals as goal
 
-pub loop-v-init : goal.loop-v-init
-loop-v-init c = (omega arith, all_none _)
-
-pub returns-then-labels-v-ge-UNREACHED : goal.returns-then-labels-v-ge-UNREACHED
-returns-then-labels-v-ge-UNREACHED c = sym (all_fails _ _ c.loop-v.v c.loop-v-test.true (le-ltb _ _ c.if-labels-v-ge-UNREACHED.true))
-
-pub loop-v-preserved : goal.loop-v-preserved
-loop-v-preserved c = (omega arith, all_more _ _ c.loop-v.invariant.1 (lt-ltb _ _ c.if-labels-v-ge-UNREACHED.false))
-
 pub returns : goal.returns
-returns c = all_end _ _ _ c.loop-v.invariant.0 c.loop-v-test.false c.loop-v.invariant.1
+returns c =
+    let front : List ℕ = take c.args.n c.args.labels.now in
+    let size : length front ≡ c.args.n = length-take-le c.args.n c.args.labels.now c.requires in
+    all_entries c.all.result front (λ v. ltb (at front v) unreached) (search rules)
+    ∙ ap (λ (m : ℕ). all m (λ v. ltb (at front v) unreached)) size
+    ∙ all_ext c.args.n _ _ (λ v l. ap (λ (x : ℕ). ltb x unreached) (get_or-take c.args.n c.args.labels.now v 0 l))

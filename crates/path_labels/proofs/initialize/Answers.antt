@@ -1,28 +1,19 @@
-use native.Mathlib.Omega.{arith}
-use lib.ListN.{length-set}
-use Rattle.path_labels.proofs.Laws.Labelling.{initialized_none, initialized_more, initialized_end}
+use mathlib.Core.Path.{◌≡◌, ap, ◌∙◌}
+use mathlib.Core.List.{List, ◌++◌}
+use Prim.Native.Nat.{ℕ, ◌≤◌}
+use lib.ListN.{length, take, drop, replicate}
+use Rattle.std.proofs.lemmas.List.{length-take-le}
+use Rattle.arithmetic.specs.Steps.Fill.{Filled}
+use Rattle.arithmetic.proofs.Laws.Slices.{replicate_tab, filled_front}
+use Rattle.path_labels.proofs.Laws.Labelling.{initialized}
 use Rattle.path_labels.proofs.initialize.Goals as goal
 
-pub loop-v-init : goal.loop-v-init
-loop-v-init c = (omega arith, initialized_none _ _ _)
-
-pub bounds-parents-v : goal.bounds-parents-v
-bounds-parents-v c = let l = c.loop-v in omega (arith, l.invariant.1.parents_size)
-
-pub bounds-labels-v : goal.bounds-labels-v
-bounds-labels-v c = let l = c.loop-v in omega (arith, l.invariant.1.labels_size)
-
-pub loop-v-preserved : goal.loop-v-preserved
-loop-v-preserved c = let l = c.loop-v in (omega arith, initialized_more _ _ l.invariant.1 (omega (arith, l.invariant.1.parents_size)) (omega (arith, l.invariant.1.labels_size)))
-
-pub bounds-labels-start : goal.bounds-labels-start
-bounds-labels-start c = let l = c.loop-v in omega (arith, l.invariant.1.labels_size)
-
-pub shape_of-parents : goal.shape_of-parents
-shape_of-parents c = c.loop-v.invariant.1.parents_size
-
-pub shape_of-labels : goal.shape_of-labels
-shape_of-labels c = let l = c.loop-v in simp length-set l.invariant.1.labels_size
+even : (n v : ℕ) (old front : List ℕ) → n ≤ length old → front ≡ replicate (length (take n old)) v → Filled n (λ _. v) old (front ++ drop n old)
+even n v old front h e =
+    filled_front h (ap (λ (z : List ℕ). z ++ drop n old) (e ∙ ap (λ (m : ℕ). replicate m v) (length-take-le n old h) ∙ replicate_tab n v))
 
 pub returns : goal.returns
-returns c = let l = c.loop-v in initialized_end _ _ l.invariant.1 (omega arith) (omega (arith, l.invariant.1.labels_size))
+returns c =
+    let room = c.requires.1 in
+    initialized _ c.requires.0 room.1
+    (even 64 _ _ _ room.0 (c.fill.ensures.after (λ _ e. e))) (even 64 _ _ _ room.1 (c.fill-2.ensures.after (λ _ e. e)))

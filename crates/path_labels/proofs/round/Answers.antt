@@ -1,9 +1,6 @@
 use Rattle.path_labels.proofs.Laws.Labelling.{round_down, round_up}
 use Rattle.path_labels.proofs.round.Goals as goal
 
-pub sweep_down-requires : goal.sweep_down-requires
-sweep_down-requires c = c.requires.0
-
 pub returns-then-not-sweep_down : goal.returns-then-not-sweep_down
 returns-then-not-sweep_down c =
     round_down c.sweep_down.ensures c.requires.1 (c.if-not-sweep_down.true)

@@ -16,8 +16,9 @@ use Rattle.vertex_set.proofs.Laws.Without.{Without, without-lowest}
 use Rattle.plan_rule.specs.Plan.{PartialPlan, matched}
 use Rattle.plan_rule.specs.Steps.Taken.{taken, taken_by_depth}
 use Rattle.plan_rule.proofs.Laws.Agreement.{agree_refl, agree_eq, taken_agree, taken_by_depth_agree}
-use Rattle.plan_matching.specs.Steps.Residue.{Residue, Consistent, Progress, Done}
-use Rattle.plan_matching.proofs.Laws.Progress.{progress_none, progress_more, progress_end}
+use Rattle.plan_matching.specs.declared.Residue.{Residue}
+use Rattle.plan_matching.specs.Steps.Residue.{Progress, Done}
+use Rattle.plan_matching.proofs.Laws.Progress.{progress_more, progress_end}
 use Rattle.plan_layers.specs.Steps.Layers.{set_of, taken_by_tables}
 
 -- ---- the vertices of a word
@@ -76,10 +77,6 @@ module _ {n : ℕ} {masks : List ℕ} {f : PartialPlan → PartialPlan} {r₀ : 
   taking_end e = progress_end w.progress (taken_none n _ (bit left) n _ (λ y l. rw (e, zero-div (2 ^ y))))
 
 -- ---- the depths in turn
-pub layering_none : {n : ℕ} (depths masks : List ℕ) {d : ℕ} {r : Residue} {plan : List ℕ} → d ≡ n → Consistent n r plan
-    → Progress n (taken_by_tables n depths masks n) r plan (taken_by_tables n depths masks d) r plan
-layering_none depths masks e v = rw e (progress_none agree_refl v)
-
 module _ (n : ℕ) (depths masks : List ℕ) {f : PartialPlan → PartialPlan} {r₀ r : Residue} {plan₀ plan : List ℕ} (d : ℕ)
     (p : Progress n f r₀ plan₀ (taken_by_tables n depths masks d) r plan) where
   pub layering_more : {e w : ℕ} {r' : Residue} {plan' : List ℕ} → d ≡ suc e → w ≡ mask n (λ x. eqb (at depths x) e)

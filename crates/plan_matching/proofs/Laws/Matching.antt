@@ -19,7 +19,8 @@ use Rattle.plan_rule.specs.Plan.{PartialPlan, sender, receiver, matched}
 use Rattle.plan_rule.specs.Steps.Agreement.{Agree}
 use Rattle.plan_rule.proofs.Laws.Matching.{found, unmatched, unmatched_le, unmatched_falls, lowest_move, moved-sends, matched-moved, matched_done}
 use Rattle.plan_rule.proofs.Laws.Agreement.{agree_eq, matched_agree}
-use Rattle.plan_matching.specs.Steps.Residue.{Residue, partial_plan, positive, Progress, Done, sends_least}
+use Rattle.plan_matching.specs.declared.Residue.{Residue}
+use Rattle.plan_matching.specs.Steps.Residue.{partial_plan, positive, Progress, Done, sends_least}
 use Rattle.plan_matching.proofs.Laws.Progress.{progress_more, progress_end}
 
 -- the vertices of a subtree at which a table is positive

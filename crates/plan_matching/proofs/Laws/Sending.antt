@@ -2,8 +2,7 @@
 use mathlib.Core.Path.{◌≡◌, refl, sym, ap, ◌∙◌}
 use mathlib.Core.Bool.{true}
 use mathlib.Core.List.{List}
-use Prim.Native.Nat.{ℕ, ◌+◌, ◌-◌, ◌*◌, ◌/◌, ◌%◌, ◌≤◌, ◌<◌, ◌^◌, min}
-use native.Mathlib.Nat.{mod-lt, div-add-mod', div-lt_iff_lt-mul}
+use Prim.Native.Nat.{ℕ, ◌+◌, ◌-◌, ◌*◌, ◌≤◌, ◌<◌, ◌^◌, min}
 use native.Mathlib.Omega.{arith}
 use lib.Dec.{ltb}
 use lib.ListN.{length, set, length-set}
@@ -20,7 +19,8 @@ use Rattle.arithmetic.proofs.Laws.Mask.{mask_change, mask_has}
 use Rattle.plan_rule.specs.Plan.{changed}
 use Rattle.plan_rule.specs.Steps.Agreement.{Agree}
 use Rattle.plan_rule.proofs.Laws.Matching.{Move, move_fits, send}
-use Rattle.plan_matching.specs.Steps.Residue.{Residue, residue, partial_plan, positive, Consistent, AsLent, Done, sends_least}
+use Rattle.plan_matching.specs.declared.Residue.{Residue}
+use Rattle.plan_matching.specs.Steps.Residue.{residue, partial_plan, positive, Consistent, AsLent, Done, sends_least}
 
 set_at : (l : List ℕ) (i v : ℕ) → i < length l → (x : ℕ) → at (set l i v) x ≡ changed (at l) i v x
 set_at l i v h x =
@@ -62,17 +62,6 @@ module _ (n : ℕ) (l : List ℕ) (w i : ℕ) (hi : i < n) (e : w ≡ positive n
       change =
           rw (get_or-set_same l i v 0 (omega arith), lt-ltb 0 (at l i) h) at
           (mask_change n i (λ x. ltb 0 (at l x)) (λ x. ltb 0 (at (set l i v) x)) hi (λ x _ d. rw (get_or-set_other l i x v 0 d)))
-
--- every entry fits, and so does what is added to it
-pub sent_fits : (n : ℕ) (r : Residue) (plan : List ℕ) → Consistent n r plan → (i j v place : ℕ) → i < n
-    → v ≡ min (at r.surplus i) (at r.deficit j) → place < n * n → at plan place + v ≤ 2 ^ 25
-sent_fits n r plan h i j v place hi e k =
-    let few : 0 < n = omega arith in
-    omega (
-      arith,
-      h.fits i i hi hi,
-      rw (div-add-mod' place n) at (h.fits (place / n) (place % n) ((div-lt_iff_lt-mul few).1 k) (mod-lt place few)),
-    )
 
 module _ (n : ℕ) (r : Residue) (plan : List ℕ) (h : Consistent n r plan) (i j : ℕ) (hi : i < n) (hj : j < n)
     (pi : 0 < at r.surplus i) (pj : 0 < at r.deficit j) where

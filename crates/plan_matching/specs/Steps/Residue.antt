@@ -5,13 +5,7 @@ use Rattle.arithmetic.specs.Mask.{mask}
 use Rattle.arithmetic.specs.Steps.Table.{cell}
 use Rattle.plan_rule.specs.Plan.{PartialPlan, sends}
 use Rattle.plan_rule.specs.Steps.Agreement.{Agree}
-
--- the residue: who has a surplus and who a deficit, as words, and how much
-pub record Residue : Type 0 where
-  pub senders : ℕ
-  pub receivers : ℕ
-  pub surplus : List ℕ
-  pub deficit : List ℕ
+use Rattle.plan_matching.specs.declared.Residue.{Residue}
 
 abbrev pub residue : ℕ → ℕ → List ℕ → List ℕ → Residue
 residue senders receivers surplus deficit = record {

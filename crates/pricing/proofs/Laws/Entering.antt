@@ -1,13 +1,13 @@
 -- The entering edge, by Dantzig's rule in blocks: the one of a block of edges that the potential U violates the most, by changing along it by more than its length.
-use Rattle.std.proofs.Common.{◌≡◌, ℕ, ◌+◌, ◌-◌, ◌*◌, ◌^◌, ◌<◌, ◌≤◌, min, true, ◌⊎◌, List, length, set, sym, refl, ap, ◌∙◌, inl, inr, ⊎_elim, arith, get_or-set_other, get_or-set_same, below_more}
+use Rattle.std.proofs.Common.{Option, Some, None, ◌≡◌, ℕ, ◌+◌, ◌-◌, ◌*◌, ◌^◌, ◌<◌, ◌≤◌, min, true, List, length, set, sym, refl, ap, ◌∙◌, ⊎_elim, arith, get_or-set_other, get_or-set_same, below_more}
 use Rattle.arithmetic.specs.Table.{at}
 use Rattle.arithmetic.specs.Steps.Product.{gap}
-use Rattle.arithmetic.proofs.Laws.Bools.{case≡, case<}
+use Rattle.arithmetic.proofs.Laws.Bools.{case<}
 use Rattle.graph.specs.Graph.{Graph, edges, joined, edge_length}
 use Rattle.graph.specs.Steps.Accepted.{Accepted}
 use Rattle.graph.proofs.Laws.Accepted.{vertices_in, lists_in}
 use Rattle.graph.proofs.Laws.Edge.{edge_up, edge_order, edge_down, edge_joined, edge_size, edge_most}
-use Rattle.pricing.specs.Steps.Entering.{violation_at, EdgeFits, Downhill, Clear, Largest, MostViolated, Scaled, AllScaled, scaled_violation, half_unit}
+use Rattle.pricing.specs.Steps.Entering.{violation_at, EdgeFits, Downhill, Largest, MostViolated, Found, Entering, Scaled, AllScaled, scaled_violation, half_unit}
 
 pub edges_few : {g : Graph} → Accepted g → edges g ≤ 512
 edges_few {g} accepted = (lists_in g accepted.lists).0
@@ -59,68 +59,73 @@ falling {g} {U} {e} accepted here violated w =
 -- ---- the largest key
 
 -- of the places from `first` to before k, `found` has the largest key, `most`; or none is above the level
-pub record LargestSoFar (m : ℕ) (key : ℕ → ℕ) (level first k found most : ℕ) : Type 0 where
+abbrev pub FoundSoFar : (key : ℕ → ℕ) (level first k most : ℕ) → Option ℕ → Type 0
+FoundSoFar key level first k most None = most ≡ level
+FoundSoFar key level first k most (Some e) = (first ≤ e) × ((e < k) × ((most ≡ key e) × (level < most)))
+
+pub record LargestSoFar (key : ℕ → ℕ) (level first k : ℕ) (found : Option ℕ) (most : ℕ) : Type 0 where
   pub largest : (i : ℕ) → i < k → first ≤ i → key i ≤ most
-  pub found_is : ((found ≡ m) × (most ≡ level)) ⊎ ((first ≤ found) × ((found < k) × ((most ≡ key found) × (level < most))))
+  pub found_is : FoundSoFar key level first k most found
 
-module _ {m : ℕ} {key : ℕ → ℕ} {level : ℕ} where
-  pub largest_none : (first : ℕ) → LargestSoFar m key level first first m level
-  largest_none first = record { largest = λ i h l. absurd (omega arith); found_is = inl (refl, refl) }
+found_level : (found : Option ℕ) (key : ℕ → ℕ) (level first k most : ℕ) → FoundSoFar key level first k most found → level ≤ most
+found_level None key level first k most h = omega arith
+found_level (Some e) key level first k most h = omega arith
 
-  module _ {first k found most x : ℕ} (w : LargestSoFar m key level first k found most) (x-is : x ≡ key k) where
-    pub largest_take : first ≤ k → most < x → LargestSoFar m key level first (k + 1) k x
+found_more : (found : Option ℕ) (key : ℕ → ℕ) (level first k most : ℕ) → FoundSoFar key level first k most found → FoundSoFar key level first (k + 1) most found
+found_more None key level first k most h = h
+found_more (Some e) key level first k most h = (h.0, (omega arith, h.1.1))
+
+module _ {key : ℕ → ℕ} {level : ℕ} where
+  pub largest_none : (first : ℕ) → LargestSoFar key level first first None level
+  largest_none first = record { largest = λ i h l. absurd (omega arith); found_is = refl }
+
+  module _ {first k most x : ℕ} {found : Option ℕ} (w : LargestSoFar key level first k found most) (x-is : x ≡ key k) where
+    pub largest_take : first ≤ k → most < x → LargestSoFar key level first (k + 1) (Some k) x
     largest_take from l = record {
       largest = below_more (λ i. first ≤ i → key i ≤ x) k (λ i h f. omega (arith, w.largest i h f)) (λ f. omega (arith, x-is));
-      found_is = inr (from, (omega arith, (x-is, ⊎_elim (λ f. omega arith) (λ f. omega arith) w.found_is)));
+      found_is = (from, (omega arith, (x-is, omega (arith, found_level found key level first k most w.found_is))));
     }
 
-    pub largest_keep : x ≤ most → LargestSoFar m key level first (k + 1) found most
+    pub largest_keep : x ≤ most → LargestSoFar key level first (k + 1) found most
     largest_keep l = record {
       largest = below_more (λ i. first ≤ i → key i ≤ most) k w.largest (λ f. omega (arith, x-is));
-      found_is = ⊎_elim inl (λ f. inr (f.0, (omega arith, f.1.1))) w.found_is;
+      found_is = found_more found key level first k most w.found_is;
     }
 
-  pub largest_end : (block : ℕ) {k found most : ℕ} → 64 * block < m → k ≡ min (64 * block + 64) m
-      → LargestSoFar m key level (64 * block) k found most → Largest m key level (64 * block) (64 * block + 64) found
-  largest_end block here end w = record {
-    none = λ e i l h o. ⊎_elim (λ d. omega (arith, w.largest i (omega arith) l)) (λ d. absurd (omega arith)) w.found_is;
-    some = λ ne. ⊎_elim (λ d. absurd (ne d.0)) (λ d. (omega arith, omega arith)) w.found_is;
-    most = λ ne j i be bi l. ⊎_elim (λ d. absurd (ne d.0))
-        (λ d. let q : j ≡ block = omega arith in omega (arith, w.largest i (omega arith) (omega arith))) w.found_is;
-  }
+pub largest_end : {m : ℕ} {key : ℕ → ℕ} {level : ℕ} (block : ℕ) {k most : ℕ} (found : Option ℕ) → 64 * block < m → k ≡ min (64 * block + 64) m
+    → LargestSoFar key level (64 * block) k found most → Found m key level (64 * block) (64 * block + 64) found
+largest_end block None here end w = record {
+  none = λ e i l h o. omega (arith, w.largest i (omega arith) l, w.found_is);
+  some = λ ne. absurd (ne refl);
+  most = λ ne. absurd (ne refl);
+}
+largest_end block (Some e) here end w = (
+  omega (arith, w.found_is),
+  record {
+    none = λ d. absurd (omega (arith, w.found_is));
+    some = λ ne. (omega (arith, w.found_is), omega (arith, w.found_is));
+    most = λ ne j i be bi l.
+        let q : j ≡ block = omega (arith, w.found_is) in omega (arith, w.found_is, w.largest i (omega arith) (omega arith));
+  },
+)
 
-  -- block by block
-  module _ {low e : ℕ} (k : ℕ) (clear : Clear m key level low (64 * k)) (w : Largest m key level (64 * k) (64 * k + 64) e) where
-    pub clear_more : m ≤ e → Clear m key level low (64 * (k + 1))
-    clear_more past i l h o =
-        case< i (64 * k)
-        (λ q. clear i l q o)
-        (λ q. case≡ e m (λ d. w.none d i q (omega arith) o) (λ d. absurd (omega (arith, w.some d))))
+module _ {m : ℕ} {key : ℕ → ℕ} {level : ℕ} where
+  -- what is found is so among more edges
+  pub largest_found : {low' high' e : ℕ} (low high : ℕ) → (e < m) × Largest m key level low' high' e → (e < m) × Largest m key level low high e
+  largest_found low high w = (w.0, record { none = λ d. absurd (omega (arith, w.0)); some = w.1.some; most = w.1.most })
 
-    pub largest_found : (high : ℕ) → e < m → Largest m key level low high e
-    largest_found high here = record { none = λ d. absurd (omega arith); some = w.some; most = w.most }
-
-  pub largest_clear : (low high k e : ℕ) → high ≤ 64 * k → e ≡ m → Clear m key level low (64 * k) → Largest m key level low high e
-  largest_clear low high k e end is clear = record {
-    none = λ d i l h o. clear i l (omega arith) o;
-    some = λ ne. absurd (ne is);
-    most = λ ne. absurd (ne is);
-  }
-
-  -- from a block on to the end, and then before that block
-  module _ (block : ℕ) {e : ℕ} (w : Largest m key level (64 * block) m e) where
-    pub largest_first : e < m → Largest m key level 0 m e
-    largest_first here = record { none = λ d. absurd (omega arith); some = w.some; most = w.most }
-
-    pub largest_second : {f : ℕ} → m ≤ e → Largest m key level (64 * 0) (64 * block) f → Largest m key level 0 m f
-    largest_second past v = record {
-      none = λ d i l h o.
-          case< i (64 * block)
-          (λ q. v.none d i (omega arith) q o)
-          (λ q. case≡ e m (λ z. w.none z i q h o) (λ z. absurd (omega (arith, w.some z))));
-      some = v.some;
-      most = v.most;
-    }
+-- from a block on nothing is found, to the end, and then what is found before that block
+pub largest_second : {m : ℕ} {key : ℕ → ℕ} {level : ℕ} (block blocks : ℕ) → m ≤ 64 * blocks → Largest m key level (64 * block) (64 * blocks) m
+    → (found : Option ℕ) → Found m key level (64 * 0) (64 * block) found → Found m key level 0 m found
+largest_second block blocks end w None v = record {
+  none = λ d i l h o.
+      case< i (64 * block)
+      (λ q. v.none refl i (omega arith) q o)
+      (λ q. w.none refl i q (omega arith) o);
+  some = λ ne. absurd (ne refl);
+  most = λ ne. absurd (ne refl);
+}
+largest_second block blocks end w (Some e) v = largest_found 0 _ v
 
 -- ---- what scaled potentials say of the potential
 module _ {u w s t : ℕ} (m : Scaled u s) (o : Scaled w t) where
@@ -161,3 +166,7 @@ module _ {g : Graph} {U S : List ℕ} (accepted : Accepted g) (scaled : AllScale
     some = λ ne. let s = w.some ne in (s.0, omega (arith, s.1, high s.0));
     most = λ ne k i be bi l. let s = w.some ne in scaled_le _ _ _ _ _ _ (low l) (high s.0) s.1 (w.most ne k i be bi l);
   }
+
+  pub entering : (found : Option ℕ) → Found (edges g) (scaled_violation g S) half_unit 0 (edges g) found → Entering g U found
+  entering None w = most-violated w
+  entering (Some e) w = (w.0, most-violated w.1)

@@ -3,35 +3,23 @@ use Rattle.pricing.proofs.Laws.Entering.{edges_few, edge-fits, largest_none, lar
 use Rattle.pricing.proofs.most_violated.Goals as goal
 use Rattle.pricing.proofs.most_violated.Goals.{then-most-here, else-most-here}
 
-pub overflow_mul-e : goal.overflow_mul-e
-overflow_mul-e c = omega (arith, edges_few c.requires.0)
-
 pub block_end-end-requires : goal.block_end-end-requires
 block_end-end-requires c = omega (arith, edges_few c.requires.0)
 
 pub loop-e-init : goal.loop-e-init
-loop-e-init c = (omega arith, (omega arith, largest_none _))
+loop-e-init c = largest_none _
 
 pub scaled_violation-here-requires : goal.scaled_violation-here-requires
 scaled_violation-here-requires c = edge-fits c.requires.0 (omega arith)
 
-pub overflow_add-e : goal.overflow_add-e
-overflow_add-e c = omega (arith, edges_few c.requires.0)
-
 pub loop-e-preserved : goal.loop-e-preserved
 loop-e-preserved c =
     let inv = c.loop-e.invariant in
-    let x = c.scaled_violation-here.ensures in (
-      omega arith,
-      (
-        omega arith,
-        elim c.if-most-here.branch [
-          | then-most-here w ↦ rw (w.found-is, w.most-is) (largest_take inv.1.1 x inv.0 w.if-most-here.true)
-          | else-most-here w ↦ rw (w.found-is, w.most-is) (largest_keep inv.1.1 x w.if-most-here.false)
-        ],
-      ),
-    )
+    let x = c.scaled_violation-here.ensures in
+    elim c.if-most-here.branch [
+      | then-most-here w ↦ rw (w.found-is, w.most-is) (largest_take inv x (omega arith) w.if-most-here.true)
+      | else-most-here w ↦ rw (w.found-is, w.most-is) (largest_keep inv x w.if-most-here.false)
+    ]
 
 pub returns : goal.returns
-returns c =
-    largest_end _ c.requires.1 (omega arith) c.loop-e.invariant.1.1
+returns c = largest_end _ _ c.requires.1 (omega arith) c.loop-e.invariant

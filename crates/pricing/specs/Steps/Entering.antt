@@ -1,5 +1,5 @@
 -- The entering edge, by Dantzig's rule in blocks: the one of a block of edges that the potential U violates the most, by changing along it by more than its length.
-use Rattle.std.specs.Prelude.{◌≡◌, ℕ, ◌+◌, ◌*◌, ◌^◌, ◌<◌, ◌≤◌, ◌⊎◌, List, length, ◌≢◌}
+use Rattle.std.specs.Prelude.{◌≡◌, ℕ, ◌+◌, ◌*◌, ◌^◌, ◌<◌, ◌≤◌, ◌⊎◌, List, length, ◌≢◌, Option, MatchOption}
 use Rattle.arithmetic.specs.Table.{at}
 use Rattle.graph.specs.Graph.{Graph, edges}
 use Rattle.tree_pivot.specs.Steps.PivotPotential.{violation}
@@ -44,6 +44,13 @@ pub record Largest (m : ℕ) (key : ℕ → ℕ) (level low high e : ℕ) : Type
 -- e is the edge of its block that U violates the most; or U violates none, and e is the number of edges
 abbrev pub MostViolated : Graph → List ℕ → ℕ → Type 0
 MostViolated g U e = Largest (edges g) (violation_at g U) 0 0 (edges g) e
+
+-- the same of an edge that is found, or of none
+abbrev pub Found : (m : ℕ) → (key : ℕ → ℕ) → (level low high : ℕ) → Option ℕ → Type 0
+Found m key level low high o = MatchOption o (Largest m key level low high m) (λ e. (e < m) × Largest m key level low high e)
+
+abbrev pub Entering : Graph → List ℕ → Option ℕ → Type 0
+Entering g U o = MatchOption o (MostViolated g U (edges g)) (λ e. (e < edges g) × MostViolated g U e)
 
 -- ---- scaled potentials
 

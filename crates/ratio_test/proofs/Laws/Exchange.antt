@@ -2,24 +2,16 @@
 use mathlib.Core.Path.{◌≡◌, sym, ◌∙◌}
 use mathlib.Core.Bool.{Bool, true, false}
 use mathlib.Core.Logic.{inl, inr, ⊎_elim}
-use Prim.Native.Nat.{ℕ, ◌≤◌, ◌<◌}
+use Prim.Native.Nat.{ℕ, ◌<◌}
 use native.Mathlib.Omega.{arith}
-use Rattle.arithmetic.specs.Sum.{sum}
 use Rattle.arithmetic.specs.Table.{at}
-use Rattle.arithmetic.proofs.Laws.Sum.{pick-le, sum-le}
-use Rattle.rooted_tree.specs.Chain.{below}
-use Rattle.rooted_tree.specs.Steps.Subtotal.{subtotal}
 use Rattle.graph.specs.Graph.{Graph}
 use Rattle.tree_pivot.specs.Steps.PivotCost.{Upward, Leaving}
-use Rattle.tree_pivot.specs.Steps.Basis.{Tables, Basis}
+use Rattle.tree_pivot.specs.Steps.Basis.{Tables, IsBasis}
 use Rattle.tree_pivot.specs.Steps.PivotBasis.{CanPivot}
 use Rattle.ratio_test.specs.Steps.Leaving.{CanLeave, HangsBy}
 use Rattle.pricing.proofs.Laws.Entering.{Falling}
 use Rattle.ratio_test.proofs.Laws.Candidates.{upward_exists}
-
-subtotal-le : (n : ℕ) (p m : ℕ → ℕ) (x : ℕ) → subtotal p n m x ≤ sum n m
-unfolding subtotal
-subtotal-le n p m x = sum-le n _ m (λ y l. pick-le (below p n y x) (m y))
 
 -- ---- the same flows by other functions
 abbrev Same : ℕ → (f g : ℕ → ℕ) → Type 0
@@ -45,15 +37,11 @@ leaving_same {c = c} more-is less-is l =
     }
 
 -- ---- in a basis
-module _ {g : Graph} {m v : ℕ → ℕ} {t : Tables} (basis : Basis g m v t) {s d long : ℕ} (edge : Falling g t.potential s d long) where
+module _ {g : Graph} {m v : ℕ → ℕ} {t : Tables} (basis : IsBasis g m v t) {s d long : ℕ} (edge : Falling g t.potential s d long) where
   -- there is a flow against the cycle
   pub can_leave : CanLeave g.n t.parents t.supply t.demand t.masks s d
   can_leave = record {
     meet = record { few = basis.network.few; tree = basis.tree; masks_are = basis.masks_are; s_low = edge.s_low; t_low = edge.t_low };
-    light = λ x l. (
-      omega (arith, basis.supply_is x l, subtotal-le g.n (at t.parents) m x, basis.network.light),
-      omega (arith, basis.demand_is x l, subtotal-le g.n (at t.parents) v x, basis.network.light, basis.balances.same),
-    );
     against =
         let z = upward_exists basis.tree basis.balances s d edge.s_low edge.t_low (omega (arith, edge.falls)) in
         let more = back basis.supply_is in

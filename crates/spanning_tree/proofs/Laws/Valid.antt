@@ -5,13 +5,14 @@ use mathlib.Core.List.{List, [], ◌∷◌, ◌++◌}
 use Prim.Native.Nat.{ℕ, zero, suc, ◌+◌, ◌-◌, min, ◌≤◌, ◌<◌}
 use native.Mathlib.Omega.{arith}
 use lib.Dec.{eqb, ltb}
-use lib.ListN.{length, drop, get_or-eq_default}
+use lib.ListN.{length, take, drop, get_or-eq_default}
 use borrow.Author.Tests.{lt-ltb, le-ltb, le-leb, lt-leb, eqb-true, ltb-true}
 use Rattle.arithmetic.specs.Sum.{pick}
 use Rattle.arithmetic.specs.Table.{at, tab}
 use Rattle.arithmetic.proofs.Laws.Bools.{case<, and_l, and_r}
 use Rattle.arithmetic.proofs.Laws.Sum.{pick-zero}
-use Rattle.arithmetic.proofs.Laws.Table.{tab_rest}
+use Rattle.arithmetic.proofs.Laws.Table.{tab_ext, tab_rest}
+use Rattle.arithmetic.proofs.Laws.Slices.{take_tab}
 use Rattle.rooted_tree.specs.Steps.Rooted.{Rooted}
 use Rattle.graph.specs.Checks.{vertices_ok}
 use Rattle.graph.proofs.Laws.Accepted.{vertices_in}
@@ -58,16 +59,18 @@ zeros_at [] h y = refl
 zeros_at (x ∷ l) h zero = eqb-true x 0 (and_l (eqb x 0) (zeroed l) h)
 zeros_at (x ∷ l) h (suc y) = zeros_at l (and_r (eqb x 0) (zeroed l) h) y
 
--- a parent of the list is held
-pub listed_here : (n : ℕ) (ps : List ℕ) (x : ℕ) → x < n → at ps x ≡ pick (ltb x n) (at ps x)
-listed_here n ps x h = rw (lt-ltb x n h)
+-- the first `count` parents of the list are held
+front_held : (n count : ℕ) (ps : List ℕ) → count ≤ n → count ≤ length ps → take count ps ≡ tab count (λ y. pick (ltb y n) (at ps y))
+front_held n count ps low room =
+    take_tab count ps room ∙ tab_ext count (at ps) (λ y. pick (ltb y n) (at ps y)) (λ y l. rw (lt-ltb y n (omega arith)))
 
 -- of a list of 64 zeros the first `count` places are the list's, and the others stay
-pub held_all : (n count : ℕ) (ps zeros held : List ℕ) → count ≡ min (min n 64) (length ps) → length zeros ≡ 64
-    → zeroed zeros ≡ true → held ≡ tab count (λ y. pick (ltb y n) (at ps y)) ++ drop count zeros → held ≡ parents_held n ps
-held_all n count ps zeros held c z none h =
+pub held_all : (n count : ℕ) (ps zeros front : List ℕ) → count ≡ min (min n 64) (length ps) → length zeros ≡ 64
+    → zeroed zeros ≡ true → front ≡ take count ps → front ++ drop count zeros ≡ parents_held n ps
+held_all n count ps zeros front c z none e =
     let all : count + (64 - count) ≡ 64 = omega arith in
-    h ∙ tab_rest (λ y. pick (ltb y n) (at ps y)) zeros count (64 - count) (omega arith) (λ y l k. zeros_at zeros none y ∙ past y l (omega arith))
+    ap (λ (l : List ℕ). l ++ drop count zeros) (e ∙ front_held n count ps (omega arith) (omega arith))
+    ∙ tab_rest (λ y. pick (ltb y n) (at ps y)) zeros count (64 - count) (omega arith) (λ y l k. zeros_at zeros none y ∙ past y l (omega arith))
     ∙ ap (λ (k : ℕ). tab k (λ y. pick (ltb y n) (at ps y))) all
   where
     -- a place from `count` on is past the vertices, past the tree or past the list

@@ -7,7 +7,6 @@ use native.Mathlib.Nat.{zero-div}
 use native.Mathlib.Omega.{arith}
 use lib.Dec.{eqb, ltb}
 use lib.ListN.{length, set, length-set}
-use lib.Pow.{pow_mono}
 use lib.Seq.{get_or-set_same, get_or-set_other}
 use borrow.Author.Tests.{eqb-true, ne_eqb, lt-ltb, le-ltb}
 use Rattle.arithmetic.specs.Sum.{pick, sum}
@@ -17,7 +16,7 @@ use Rattle.arithmetic.specs.Steps.Mask.{bit}
 use Rattle.arithmetic.specs.Steps.Fill.{Filled}
 use Rattle.arithmetic.specs.Steps.Table.{EachBelow}
 use Rattle.arithmetic.proofs.Laws.Bools.{or_true_r, case, case≡, case<, clash, eqb_self}
-use Rattle.arithmetic.proofs.Laws.Mask.{mask_lt, bit_mask, mask_bits}
+use Rattle.arithmetic.proofs.Laws.Mask.{bit_mask, mask_bits}
 use Rattle.arithmetic.proofs.Laws.Sum.{sum_ext, sum-le, sum_change, sum_zeros}
 use Rattle.vertex_set.specs.Lowest.{lowest}
 use Rattle.vertex_set.specs.Steps.Sets.{Depths}
@@ -118,9 +117,6 @@ layer_of {n} depths {d} {left} h e = record {
   deep = λ x l b. eqb-true (at depths x) d (sym (bit_mask n _ x l) ∙ sym (ap (λ (w : ℕ). bit w x) e) ∙ b);
 }
 
-pub layer_small : {n : ℕ} {depths : List ℕ} {d left : ℕ} → n ≤ 64 → Layer n depths d left → left < 2 ^ 64
-layer_small {n} {left = left} few y = omega (arith, y.set, mask_lt n (bit left), pow_mono few)
-
 -- the masses m are passed on from all vertices but those left and those less deep
 pub record Summing (n : ℕ) (p : ℕ → ℕ) (depths : List ℕ) (g : Layered n p depths) (m : ℕ → ℕ) (d left : ℕ) (old sums : List ℕ) : Type 0 where
   pub size : length sums ≡ length old
@@ -130,24 +126,24 @@ module _ {n : ℕ} {p : ℕ → ℕ} {depths : List ℕ} (g : Layered n p depths
   pub depths_few : Depths n depths
   depths_few = record { long = g.long; each = λ x l. omega (arith, g.are x l, depth-lt g.tree x l) }
 
-  pub summing_first : {left : ℕ} → left ≡ mask n (λ x. eqb (at depths x) (n - 1)) → (sums : List ℕ) → Summing n p depths g (at sums) (n - 1) left sums sums
-  summing_first {left} e sums = record {
+  -- no vertex is as deep as n
+  pub summing_first : (sums : List ℕ) → Summing n p depths g (at sums) n 0 sums sums
+  summing_first sums = record {
     size = refl;
     each = record {
       each = λ z l.
           omega (
             arith,
-            sum_zeros n (λ c. pick (passed_by depths (n - 1) left c && is_child g.root p z c) (subtotal p n (at sums) c)) (λ c k.
+            sum_zeros n (λ c. pick (passed_by depths n 0 c && is_child g.root p z c) (subtotal p n (at sums) c)) (λ c k.
                 rw (none c k)),
           );
     };
   }
     where
-      none : (c : ℕ) → c < n → passed_by depths (n - 1) left c ≡ false
+      none : (c : ℕ) → c < n → passed_by depths n 0 c ≡ false
       none c k =
-          let b : bit left c ≡ eqb (at depths c) (n - 1) = ap (λ (w : ℕ). bit w c) e ∙ bit_mask n _ c k in
-          rw (b, le-ltb (n - 1) (at depths c) (omega (arith, g.are c k, depth-lt g.tree c k)))
-          (case (eqb (at depths c) (n - 1)) (λ q. rw q) (λ q. rw q))
+          let h : at depths c < n = omega (arith, g.are c k, depth-lt g.tree c k) in
+          rw (le-ltb n (at depths c) (omega arith), ne_eqb (at depths c) n (λ e. omega arith))
 
   module _ {m : ℕ → ℕ} {d left : ℕ} {old sums : List ℕ} (w : Summing n p depths g m d left old sums) where
     -- nothing is left: the layer above comes next
@@ -211,14 +207,21 @@ module _ {n : ℕ} {p : ℕ → ℕ} {depths : List ℕ} (g : Layered n p depths
               (λ q. rw (q, fresh, eqb_self x, at_x, eqb_self d, layer-out.gone) (sym (or_true_r (ltb d d) _ refl)))
               (λ q. rw (ne_eqb c x q, layer-out.kept c k q) (or-false _))
 
-    pub summing_end : d ≤ 0 → Filled n (subtotal p n m) old sums
-    summing_end h = record {
+    -- all but the root, the one vertex of depth 0, have passed on
+    pub summing_end : left ≡ 0 → d ≤ 1 → Filled n (subtotal p n m) old sums
+    summing_end e h = record {
       size = w.size;
-      each = λ z l. complete g.tree m _ sums w.each z l (λ c k e.
+      each = λ z l. complete g.tree m _ sums w.each z l (λ c k i.
           case≡ c g.root
-          (λ q. clash (rw (q, eqb_self g.root) at e) refl)
-          (λ q. rw (lt-ltb d (at depths c) (omega (arith, g.are c k, depth-step g.tree c k q)))));
+          (λ q. clash (rw (q, eqb_self g.root) at i) refl)
+          (λ q. passed c (omega (arith, g.are c k, depth-step g.tree c k q))));
     }
+      where
+        passed : (c : ℕ) → d ≤ at depths c → passed_by depths d left c ≡ true
+        passed c k =
+            case< d (at depths c)
+            (λ i. rw (lt-ltb d (at depths c) i))
+            (λ i. let q : at depths c ≡ d = omega arith in rw (e, q, eqb_self d, zero-div (2 ^ c)) (or_true_r (ltb d d) _ refl))
 
 -- the subtotals of a table are those of the masses that it was filled with
 pub filled-subtotal : {n : ℕ} (p : ℕ → ℕ) {m : ℕ → ℕ} {old masses old' new : List ℕ} → Filled n m old masses

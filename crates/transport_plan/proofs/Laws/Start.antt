@@ -14,17 +14,18 @@ use Rattle.arithmetic.specs.Steps.Mask.{bit}
 use Rattle.arithmetic.proofs.Laws.Bools.{case, case≡, case<, eqb_self}
 use Rattle.arithmetic.proofs.Laws.Sum.{pick-le, pick-zero, sum_ge}
 use Rattle.arithmetic.proofs.Laws.Fill.{filling_none, filling_more, filled-end}
-use Rattle.arithmetic.proofs.Laws.Matrix.{filled_at, filled_by, filled-length, filled_over, filled_self, filled_store}
+use Rattle.arithmetic.proofs.Laws.Matrix.{filled_at, filled_ext, filled_by, filled-length, filled_over, filled_self, filled_store}
 use Rattle.arithmetic.proofs.Laws.Mask.{bit_mask, mask_bits}
 use Rattle.rooted_tree.specs.Chain.{depth}
 use Rattle.plan_rule.specs.Plan.{PartialPlan, started, moves}
 use Rattle.plan_rule.specs.Steps.Agreement.{Agree}
 use Rattle.plan_rule.proofs.Laws.Agreement.{agree_trans, layers_agree}
 use Rattle.plan_rule.proofs.Laws.PlanMoves.{moves-filled}
-use Rattle.plan_matching.specs.Steps.Residue.{Residue, residue, partial_plan, positive, Consistent, Done}
+use Rattle.plan_matching.specs.declared.Residue.{Residue}
+use Rattle.plan_matching.specs.Steps.Residue.{residue, partial_plan, positive, Done}
 use Rattle.vertex_set.specs.Steps.Sets.{VertexSets, Depths}
 use Rattle.plan_layers.specs.Steps.Layers.{set_of, taken_by_tables}
-use Rattle.transport_plan.specs.Steps.PlanSteps.{TreeTables, Measures, Zeros, SharedKept}
+use Rattle.transport_plan.specs.Steps.PlanSteps.{TreeTables, Measures, Zeros, SharedKept, Begun}
 use Rattle.plan_rule.specs.Plan as Plan
 
 pub amount_fits : (n : ℕ) (mu nu : List ℕ) (x : ℕ) → Measures n mu nu → x < n → (at mu x ≤ 2 ^ 24) × (at nu x ≤ 2 ^ 24)
@@ -54,11 +55,12 @@ below_next u x m d =
 
 module _ {n : ℕ} {mu nu s₀ d₀ plan₀ : List ℕ} {x : ℕ} {s d plan : List ℕ} (h : SharedKept n mu nu s₀ d₀ plan₀ x s d plan) where
   -- one vertex more
-  pub shared_more : {v place : ℕ} → n * n ≤ length plan₀ → x < n → v ≡ min (at mu x) (at nu x) → place ≡ x * n + x
-      → SharedKept n mu nu s₀ d₀ plan₀ (x + 1) (set s x (at mu x - v)) (set d x (at nu x - v)) (set plan place v)
-  shared_more {v} {place} room l ev ep = record {
-    surplus = filling_more h.surplus l (omega arith);
-    deficit = filling_more h.deficit l (omega arith);
+  pub shared_more : {v a b place : ℕ} → n * n ≤ length plan₀ → x < n → v ≡ min (at mu x) (at nu x) → a ≡ at mu x - at nu x
+      → b ≡ at nu x - at mu x → place ≡ x * n + x
+      → SharedKept n mu nu s₀ d₀ plan₀ (x + 1) (set s x a) (set d x b) (set plan place v)
+  shared_more {v} {a} {b} {place} room l ev ea eb ep = record {
+    surplus = filling_more h.surplus l ea;
+    deficit = filling_more h.deficit l eb;
     long = length-set plan place v ∙ h.long;
     sent = rw ep (filled_store n _ _ plan₀ plan x x v room l l h.sent
         (rw (eqb_self x, lt-ltb x (x + 1) (omega arith)) (sym ev))
@@ -69,28 +71,35 @@ module _ {n : ℕ} {mu nu s₀ d₀ plan₀ : List ℕ} {x : ℕ} {s d plan : Li
 
 -- ---- the residue
 module _ {n : ℕ} {mu nu s₀ d₀ plan₀ s d plan : List ℕ} (h : SharedKept n mu nu s₀ d₀ plan₀ n s d plan) where
+  shared_sent : plan ≡ filled n (λ i j. pick (eqb i j) (min (at mu i) (at nu i))) plan₀
+  shared_sent = h.sent ∙ filled_ext n _ plan₀ _ (λ i j hi hj. rw (lt-ltb i n hi))
+
   started_agree : (a b : ℕ) → Agree n (started (at mu) (at nu)) (partial_plan n (residue a b s d) plan)
   started_agree a b = record {
-    sent = λ i j hi hj. sym (rw (lt-ltb i n hi) at (ap (λ (l : List ℕ). cell n l i j) h.sent ∙ filled_at n _ plan₀ i j hi hj));
+    sent = λ i j hi hj. sym (ap (λ (l : List ℕ). cell n l i j) shared_sent ∙ filled_at n _ plan₀ i j hi hj);
     surplus = λ x l. sym ((filled-end h.surplus (omega arith)).each x l);
     deficit = λ x l. sym ((filled-end h.deficit (omega arith)).each x l);
   }
 
-  pub started_consistent : {a b : ℕ} → n ≤ 64 → n * n ≤ length plan₀ → Measures n mu nu → a ≡ positive n s → b ≡ positive n d
-      → Consistent n (residue a b s d) plan
-  started_consistent {a} {b} small room m es er = record {
-    small = small;
-    room = omega (arith, h.long);
-    long_s = omega (arith, h.surplus.size, h.surplus.room);
-    long_d = omega (arith, h.deficit.size, h.deficit.room);
-    apart = λ x l. omega (arith, start.surplus x l, start.deficit x l);
-    fits = λ i j hi hj. omega (arith, start.sent i j hi hj, start.surplus i hi, pick-le (eqb i j) (min (at mu i) (at nu i)), (amount_fits n mu nu i m hi).0);
-    senders_are = es;
-    receivers_are = er;
-  }
+  pub begun : {r : Residue} → n ≤ 64 → n * n ≤ length plan₀ → Measures n mu nu → r ≡ residue (positive n s) (positive n d) s d
+      → Begun n mu nu plan₀ r plan
+  begun small room m e = rw e (record {
+    agree = start;
+    consistent = record {
+      small = small;
+      room = omega (arith, h.long);
+      long_s = omega (arith, h.surplus.size, h.surplus.room);
+      long_d = omega (arith, h.deficit.size, h.deficit.room);
+      apart = λ x l. omega (arith, start.surplus x l, start.deficit x l);
+      fits = λ i j hi hj. omega (arith, start.sent i j hi hj, start.surplus i hi, pick-le (eqb i j) (min (at mu i) (at nu i)), (amount_fits n mu nu i m hi).0);
+      senders_are = refl;
+      receivers_are = refl;
+    };
+    sent = shared_sent;
+  })
     where
-      start : Agree n (started (at mu) (at nu)) (partial_plan n (residue a b s d) plan)
-      start = started_agree a b
+      start : Agree n (started (at mu) (at nu)) (partial_plan n (residue (positive n s) (positive n d) s d) plan)
+      start = started_agree (positive n s) (positive n d)
 
 -- ---- the tree
 
@@ -108,19 +117,15 @@ module _ {n r : ℕ} {p : ℕ → ℕ} {depths masks : List ℕ} (t : TreeTables
   tree_sets = record { long = t.long_masks; each = λ x l. mask_bits n _ _ (t.masks_are x l) }
 
   -- from the zeros to the plan
-  pub plan-filled : (lent : List ℕ) {mu nu zeros s₀ d₀ s d plan plan' : List ℕ} {a b : ℕ} {r' : Residue} → zeros ≡ filled n (λ _ _. 0) lent
-      → SharedKept n mu nu s₀ d₀ zeros n s d plan → Done n (taken_by_tables n depths masks n) (residue a b s d) plan r' plan'
+  pub plan-filled : (lent : List ℕ) {mu nu zeros plan plan' : List ℕ} {s s' : Residue} → zeros ≡ filled n (λ _ _. 0) lent
+      → Begun n mu nu zeros s plan → Done n (taken_by_tables n depths masks n) s plan s' plan'
       → plan' ≡ filled n (Plan.plan n r p (at mu) (at nu)) lent
   unfolding Plan.plan taken_by_tables set_of
-  plan-filled lent {mu} {nu} {zeros} {plan = plan} {plan' = plan'} {a} {b} z h d =
+  plan-filled lent {mu} {nu} {zeros} {plan = plan} {plan' = plan'} z h d =
       filled_by n _ plan (omega (arith, d.kept.long, d.consistent.room)) plan' d.kept.long d.kept.rest
       (λ i j hi hj. sym ((agree_trans (layers_agree n r p (λ x l. sym (t.depths_are x l))
-      (λ x y l k. sym (ap (λ (w : ℕ). bit w y) (t.masks_are x l) ∙ bit_mask n _ y k)) (started_agree h a b)) d.agree).sent i j hi hj))
+      (λ x y l k. sym (ap (λ (w : ℕ). bit w y) (t.masks_are x l) ∙ bit_mask n _ y k)) h.agree) d.agree).sent i j hi hj))
       ∙ ap (filled n (Plan.plan n r p (at mu) (at nu))) h.sent ∙ filled_over n _ zeros _ ∙ ap (filled n (Plan.plan n r p (at mu) (at nu))) z ∙ filled_over n _ lent _
-
-pub plan-length : (n : ℕ) {f : PartialPlan → PartialPlan} (lent : List ℕ) {mu nu zeros s₀ d₀ s d plan plan' : List ℕ} {a b : ℕ} {r' : Residue} → n * n ≤ length lent
-    → zeros ≡ filled n (λ _ _. 0) lent → SharedKept n mu nu s₀ d₀ zeros n s d plan → Done n f (residue a b s d) plan r' plan' → length plan' ≡ length lent
-plan-length n lent room z h d = d.kept.long ∙ h.long ∙ rw z (filled-length n (λ _ _. 0) lent room)
 
 -- the moves of a table that holds a plan are the plan's
 pub plan-moves : (n : ℕ) (t : ℕ → ℕ → ℕ) (lent l : List ℕ) (k : ℕ) → l ≡ filled n t lent → k ≡ moves n (λ i j. cell n l i j) → k ≡ moves n t

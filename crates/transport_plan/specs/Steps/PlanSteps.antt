@@ -7,6 +7,10 @@ use Rattle.arithmetic.specs.Steps.Table.{cell}
 use Rattle.arithmetic.specs.Steps.Fill.{Filling}
 use Rattle.arithmetic.specs.Steps.Matrix.{filled}
 use Rattle.rooted_tree.specs.Chain.{below, depth}
+use Rattle.plan_rule.specs.Plan.{started}
+use Rattle.plan_rule.specs.Steps.Agreement.{Agree}
+use Rattle.plan_matching.specs.declared.Residue.{Residue}
+use Rattle.plan_matching.specs.Steps.Residue.{partial_plan, Consistent}
 
 -- the tables of depths and subtree masks of the tree with root r and parents p
 pub record TreeTables (n r : ℕ) (p : ℕ → ℕ) (depths masks : List ℕ) : Type 0 where
@@ -34,3 +38,9 @@ pub record SharedKept (n : ℕ) (mu nu s₀ d₀ plan₀ : List ℕ) (x : ℕ) (
   pub deficit : Filling n (λ i. at nu i - at mu i) d₀ d x
   pub long : length plan ≡ length plan₀
   pub sent : plan ≡ filled n (λ i j. pick (eqb i j) (pick (ltb i x) (min (at mu i) (at nu i)))) plan₀
+
+-- the plan has what mu and nu share, and the residue the rest: the rule's start
+pub record Begun (n : ℕ) (mu nu plan₀ : List ℕ) (r : Residue) (plan : List ℕ) : Type 0 where
+  pub agree : Agree n (started (at mu) (at nu)) (partial_plan n r plan)
+  pub consistent : Consistent n r plan
+  pub sent : plan ≡ filled n (λ i j. pick (eqb i j) (min (at mu i) (at nu i))) plan₀

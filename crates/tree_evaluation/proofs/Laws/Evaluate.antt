@@ -1,11 +1,11 @@
 -- The call that evaluates a given tree: what evaluating an accepted tree gives, and how the call ends.
 use Prim.Native.Nat.{ℕ, ◌*◌, ◌≤◌}
-use mathlib.Core.Path.{◌≡◌, sym, ap, ◌∙◌}
+use mathlib.Core.Path.{◌≡◌, refl, sym, ap, ◌∙◌}
 use mathlib.Core.List.{List, ◌++◌}
 use native.Mathlib.Omega.{arith}
 use lib.IntN.{ℤ, pos, sub_ℕ}
 use lib.ListN.{length, drop, get_or}
-use Rattle.arithmetic.specs.Table.{at, tab, matrix}
+use Rattle.arithmetic.specs.Table.{at, tab}
 use Rattle.arithmetic.specs.Mask.{mask}
 use Rattle.arithmetic.specs.Steps.Fill.{Filled}
 use Rattle.arithmetic.proofs.Laws.Table.{length-tab, length-rows, front_at, front_length, result_refused, written_refused}
@@ -18,7 +18,6 @@ use Rattle.spanning_tree.specs.TreeValue.{parents_held}
 use Rattle.given_tree.specs.Given.{Given, answers_ok}
 use Rattle.given_tree.specs.Steps.Given.{GivenChecked}
 use Rattle.given_tree.proofs.Laws.Given.{GivenAccepted, given-passed, given_accepted, room_within}
-use Rattle.plan_rule.specs.Plan.{plan, moves}
 use Rattle.tree_figures.specs.Figures.{imbalance, potential, tree_cost}
 use Rattle.tree_figures.specs.Steps.Tables.{Short, LengthsTo, Moderate, cost_from, potential_from}
 use Rattle.tree_figures.proofs.Laws.Figure.{imbalance_moderate, imbalance_table, cost_table, potential_table}
@@ -27,13 +26,6 @@ use Rattle.tree_evaluation.specs.Steps.EvaluateTree.{Weighted, Evaluable, TreeEv
 use Rattle.tree_evaluation.proofs.Laws.GivenTree.{given_weighted, given_evaluable, given_holds, given_same}
 
 -- ---- an accepted tree
-
--- its imbalances, its cost, and its plan
-pub tree_evaluated : {g : Graph} {r : ℕ} {p mu nu : ℕ → ℕ} {imbalances imbalances' : List ℤ} {entries entries' : List ℕ} {cost moved : ℕ}
-    → imbalances' ≡ tab g.n (imbalance g.n p mu nu) ++ drop g.n imbalances → cost ≡ tree_cost g r p mu nu
-    → (entries' ≡ matrix g.n (plan g.n r p mu nu) ++ drop (g.n * g.n) entries) × (moved ≡ moves g.n (plan g.n r p mu nu))
-    → TreeEvaluated g r p mu nu imbalances entries cost moved imbalances' entries'
-tree_evaluated i c e = record { cost_is = c; moves_are = e.1; imbalance_is = i; plan_is = e.0 }
 
 -- the imbalances follow from the masses a and b of mu and nu below each vertex
 pub imbalances_found : (n : ℕ) (p mu nu : ℕ → ℕ) {a a' b b' : List ℕ} (imbalances : List ℤ) {imbalances' : List ℤ}
@@ -87,17 +79,17 @@ module _ {g : Graph} {w : Given} (imbalances potentials : List ℤ) (entries : L
   }
 
 -- nothing is refused: the tree by value; u is the room for its potential
-module _ {g : Graph} {w : Given} (imbalances : List ℤ) (u : ℕ) (entries : List ℕ) {k : ℕ} {above above' first edge : List ℕ}
-    (checked : GivenChecked g w (answers_ok g.n (length imbalances) u (length entries)) k above above' first edge) (z : k ≡ 0)
+module _ {g : Graph} {w : Given} (imbalances : List ℤ) (u : ℕ) (entries : List ℕ) {above above' first edge : List ℕ}
+    (checked : GivenChecked g w (answers_ok g.n (length imbalances) u (length entries)) 0 above above' first edge)
     {n r : ℕ} {parents : List ℕ} (held : (n ≡ g.n) × ((r ≡ w.root) × (parents ≡ parents_held g.n w.parents))) where
   accepted : GivenAccepted g w
-  accepted = given_accepted checked z
+  accepted = given_accepted checked refl
 
   rooms : (g.n ≤ length imbalances) × ((g.n ≤ u) × (g.n * g.n ≤ length entries))
-  rooms = room_within g.n _ _ _ (given-passed g w _ (sym checked.number ∙ z)).1
+  rooms = room_within g.n _ _ _ (given-passed g w _ (sym checked.number)).1
 
   pub evaluable : 64 ≤ length above → Evaluable n r parents above' w.mu w.nu imbalances entries
-  evaluable long = given_evaluable accepted (checked.lengths z) held long rooms.0 rooms.1.1
+  evaluable long = given_evaluable accepted (checked.lengths refl) held long rooms.0 rooms.1.1
 
   module _ {cost moved : ℕ} {imbalances' : List ℤ} {entries' old words : List ℕ}
       (gathered : Filled n (λ x. mask n (λ y. below (at parents) n y x)) old words)
@@ -106,15 +98,15 @@ module _ {g : Graph} {w : Given} (imbalances : List ℤ) (u : ℕ) (entries : Li
       imbalances entries cost moved imbalances' entries') where
     value : TreeEvaluated g w.root (at w.parents) (at w.mu) (at w.nu) imbalances entries cost moved imbalances' entries'
     value =
-        given_holds accepted (checked.lengths z) held
+        given_holds accepted (checked.lengths refl) held
         (λ h s p. TreeEvaluated h s p (at w.mu) (at w.nu) imbalances entries cost moved imbalances' entries') promise
 
     pub evaluate_asked : 64 ≤ length above → 64 ≤ length old
         → ((n ≤ 64) × (n ≤ u)) × ((VertexSets n words × ((n ≤ length above') × (n ≤ length imbalances')))
         × (Short n r (at above') × Moderate n imbalances'))
     evaluate_asked room long =
-        let e = given_weighted accepted (checked.lengths z) held room {imbalances = imbalances} rooms.0 in
-        potential_asked {imbalances' = imbalances'} e gathered (omega (arith, e.few)) (rw (held.0, given_same accepted (checked.lengths z) held) value.imbalance_is)
+        let e = given_weighted accepted (checked.lengths refl) held room {imbalances = imbalances} rooms.0 in
+        potential_asked {imbalances' = imbalances'} e gathered (omega (arith, e.few)) (rw (held.0, given_same accepted (checked.lengths refl) held) value.imbalance_is)
         (omega (arith, rooms.1.0, held.0))
 
     pub evaluate_done : {potentials potentials' : List ℤ} → u ≡ length potentials
@@ -122,13 +114,13 @@ module _ {g : Graph} {w : Given} (imbalances : List ℤ) (u : ℕ) (entries : Li
         → Evaluated g w imbalances potentials entries 0 cost moved imbalances' potentials' entries'
     unfolding evaluate_refusal
     evaluate_done {potentials} e written = record {
-      refusal = sym z ∙ (rw e at checked.number);
+      refusal = rw e at checked.number;
       cost_is = value.cost_is;
       moves_are = value.moves_are;
       imbalance_is = rw length-tab value.imbalance_is;
       potential_is =
           rw length-tab
-          (potential-from g w.root (at w.parents) (at w.mu) (at w.nu) (at above') (checked.lengths z).each
-          imbalances potentials (rw (held.0, given_same accepted (checked.lengths z) held) at gathered) value.imbalance_is (rw (held.0, held.1.0) at written));
+          (potential-from g w.root (at w.parents) (at w.mu) (at w.nu) (at above') (checked.lengths refl).each
+          imbalances potentials (rw (held.0, given_same accepted (checked.lengths refl) held) at gathered) value.imbalance_is (rw (held.0, held.1.0) at written));
       plan_is = rw length-rows value.plan_is;
     }

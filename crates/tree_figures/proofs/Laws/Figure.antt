@@ -10,6 +10,7 @@ use lib.Dec.{eqb}
 use lib.ListN.{length}
 use lib.Signed.{mag}
 use lib.IntN.{ℤ, pos, negsuc, nat_abs, sub_ℕ, ◌*ℤ◌}
+use borrow.Author.Tests.{eq-eqb, ne_eqb}
 use Rattle.arithmetic.specs.Sum.{pick, sum}
 use Rattle.arithmetic.specs.Table.{at, tab}
 use Rattle.arithmetic.specs.Mask.{mask}
@@ -100,9 +101,14 @@ module _ (g : Graph) (r : ℕ) (p mu nu l : ℕ → ℕ) (lengths : LengthsTo g 
 pub cost_none : (r : ℕ) (l a b : ℕ → ℕ) → 0 ≡ cost_from 0 r l a b
 cost_none r l a b = sym (sum-nil _)
 
-pub cost_more : (k r : ℕ) (l a b : ℕ → ℕ) (cost v : ℕ) → cost ≡ cost_from k r l a b → v ≡ inner r k (l k * gap (a k) (b k))
-    → cost + v ≡ cost_from (k + 1) r l a b
-cost_more k r l a b cost v e f = rw (e, f) (sym (sum_step k _))
+-- the root adds nothing,
+pub cost_root : (k r : ℕ) (l a b : ℕ → ℕ) (cost : ℕ) → cost ≡ cost_from k r l a b → k ≡ r → cost ≡ cost_from (k + 1) r l a b
+cost_root k r l a b cost e s = rw (e, sum_step k (λ x. inner r x (l x * gap (a x) (b x))), eq-eqb k r s) (omega arith)
+
+-- another vertex its length × |imbalance|
+pub cost_edge : (k r : ℕ) (l a b : ℕ → ℕ) (cost u : ℕ) → cost ≡ cost_from k r l a b → (k ≡ r → ⊥) → u ≡ gap (a k) (b k)
+    → cost + l k * u ≡ cost_from (k + 1) r l a b
+cost_edge k r l a b cost u e d f = rw (e, f, sum_step k (λ x. inner r x (l x * gap (a x) (b x))), ne_eqb k r d)
 
 -- ---- bounds
 pub imbalance_moderate : (n : ℕ) (p mu nu : ℕ → ℕ) (x : ℕ) → sum n mu < 2 ^ 31 → sum n nu < 2 ^ 31 → mag (imbalance n p mu nu x) < 2 ^ 31

@@ -8,11 +8,6 @@ use Rattle.tree_figures.proofs.write_imbalance.Goals as goal
 pub loop-x-init : goal.loop-x-init
 loop-x-init c = filling_none _ _ (omega arith)
 
-pub difference-requires : goal.difference-requires
-difference-requires c =
-    let x = c.loop-x.x in
-    (c.requires.masses.0 x (omega arith), c.requires.masses.1 x (omega arith))
-
 pub loop-x-preserved : goal.loop-x-preserved
 loop-x-preserved c =
     filling_more c.loop-x.invariant (omega arith)

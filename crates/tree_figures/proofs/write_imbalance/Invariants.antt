@@ -1,4 +1,3 @@
-use Prim.Native.Nat.{◌-◌}
 use lib.IntN.{sub_ℕ}
 use Rattle.arithmetic.specs.Table.{at}
 use Rattle.arithmetic.specs.Steps.Fill.{Filling}
@@ -6,6 +5,3 @@ use Rattle.tree_figures.proofs.write_imbalance.Given as goal
 
 abbrev pub invariant-loop-x : goal.invariant-loop-x
 invariant-loop-x l = Filling l.n (λ z. sub_ℕ (at l.supply z) (at l.demand z)) l.initial.out l.out l.x
-
-abbrev pub decreases-loop-x : goal.decreases-loop-x
-decreases-loop-x l = l.n - l.x

@@ -9,15 +9,6 @@ use Rattle.arithmetic.proofs.Laws.Fill.{filling_none, filling_more, filling_end}
 use Rattle.tree_figures.proofs.Laws.Figure.{slopes_are, heights_are}
 use Rattle.tree_figures.proofs.write_potential.Goals as goal
 
-pub write_slopes-requires-clause-n_in_bounds : goal.write_slopes-requires-clause-n_in_bounds
-write_slopes-requires-clause-n_in_bounds c = (c.requires.long.1.0, (c.requires.long.1.1, c.requires.lengths.1))
-
-pub write_slopes-requires-clause-room : goal.write_slopes-requires-clause-room
-write_slopes-requires-clause-room c = (c.requires.n_bound.0, c.requires.n_bound.0)
-
-pub word_heights-heights-requires-clause-n_bound : goal.word_heights-heights-requires-clause-n_bound
-word_heights-heights-requires-clause-n_bound c = (c.requires.n_bound.0, c.requires.long.0)
-
 pub word_heights-heights-requires-clause-slopes : goal.word_heights-heights-requires-clause-slopes
 word_heights-heights-requires-clause-slopes c =
     let few = c.requires.n_bound.0 in

@@ -1,4 +1,3 @@
-use Prim.Native.Nat.{◌-◌}
 use lib.IntN.{pos}
 use lib.ListN.{get_or}
 use Rattle.arithmetic.specs.Table.{at}
@@ -8,6 +7,3 @@ use Rattle.tree_figures.proofs.write_potential.Given as goal
 
 abbrev pub invariant-loop-y : goal.invariant-loop-y
 invariant-loop-y l = Filling l.n (potential_from l.n l.root (at l.masks) (at l.above) (λ x. get_or l.imbalance x (pos 0))) l.initial.out l.out l.y
-
-abbrev pub decreases-loop-y : goal.decreases-loop-y
-decreases-loop-y l = l.n - l.y

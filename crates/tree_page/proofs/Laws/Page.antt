@@ -1,6 +1,6 @@
 -- The page of a given tree: its figures fit, every vertex has one line, and how the call ends.
 use Prim.Native.Nat.{ℕ, ◌*◌, ◌/◌, ◌^◌, ◌≤◌, ◌<◌}
-use mathlib.Core.Path.{◌≡◌, sym, ap, ◌∙◌}
+use mathlib.Core.Path.{◌≡◌, refl, sym, ap, ◌∙◌}
 use mathlib.Core.Bool.{true}
 use mathlib.Core.List.{List, ◌++◌}
 use native.Mathlib.Nat.{mul-le-mul_right}
@@ -126,59 +126,61 @@ module _ (g : Graph) (w : Given) (buffer : List ℕ) (passed : page_refusal g w 
       )
 
 -- ---- how the call ends
-module _ {g : Graph} {w : Given} (buffer : List ℕ) {k : ℕ} {above above' first edge : List ℕ}
-    (checked : GivenChecked g w (leb (96 * g.n) (length buffer)) k above above' first edge) where
-  pub page_refused : (k ≡ 0 → ⊥) → PageWritten g w buffer k 0 buffer
-  unfolding page_refusal
-  page_refused d = record { refusal = checked.number; length_is = result_refused k _ d; bytes_are = written_refused k _ buffer d }
+pub page_refused : {g : Graph} {w : Given} (buffer : List ℕ) {k : ℕ} {above above' first edge : List ℕ}
+    → GivenChecked g w (leb (96 * g.n) (length buffer)) k above above' first edge → (k ≡ 0 → ⊥) → PageWritten g w buffer k 0 buffer
+unfolding page_refusal
+page_refused buffer {k} checked d = record { refusal = checked.number; length_is = result_refused k _ d; bytes_are = written_refused k _ buffer d }
 
-  module _ (z : k ≡ 0) {n r : ℕ} {parents : List ℕ} (held : (n ≡ g.n) × ((r ≡ w.root) × (parents ≡ parents_held g.n w.parents))) where
-    given-all : GivenAccepted g w × (leb (96 * g.n) (length buffer) ≡ true)
-    given-all = given-passed g w _ (sym checked.number ∙ z)
+-- nothing is refused: the tree by value
+module _ {g : Graph} {w : Given} (buffer : List ℕ) {above above' first edge : List ℕ}
+    (checked : GivenChecked g w (leb (96 * g.n) (length buffer)) 0 above above' first edge)
+    {n r : ℕ} {parents : List ℕ} (held : (n ≡ g.n) × ((r ≡ w.root) × (parents ≡ parents_held g.n w.parents))) where
+  given-all : GivenAccepted g w × (leb (96 * g.n) (length buffer) ≡ true)
+  given-all = given-passed g w _ (sym checked.number)
 
-    pub page-room : 96 * g.n ≤ length buffer
-    page-room = leb-true _ _ given-all.1
+  pub page-room : 96 * g.n ≤ length buffer
+  page-room = leb-true _ _ given-all.1
 
-    pub figures_asked : 64 ≤ length above → {imbalances : List ℤ} {room : ℕ} → 64 ≤ length imbalances → 64 ≤ room
-        → Weighted n r parents above' w.mu w.nu imbalances × (n ≤ room)
-    figures_asked long {imbalances} i u = (
-      given_weighted given-all.0 (checked.lengths z) held long {imbalances = imbalances} (omega (arith, few given-all.0)),
-      omega (arith, few given-all.0, held.0),
-    )
+  pub figures_asked : 64 ≤ length above → {imbalances : List ℤ} {room : ℕ} → 64 ≤ length imbalances → 64 ≤ room
+      → Weighted n r parents above' w.mu w.nu imbalances × (n ≤ room)
+  figures_asked long {imbalances} i u = (
+    given_weighted given-all.0 (checked.lengths refl) held long {imbalances = imbalances} (omega (arith, few given-all.0)),
+    omega (arith, few given-all.0, held.0),
+  )
 
-    module _ {imbalances potentials imbalances' potentials' : List ℤ} (i : 64 ≤ length imbalances) (u : 64 ≤ length potentials)
-        (promise : LengthsTo (graph n g.lower g.upper g.lengths) r (at parents) (at above')
-        → FiguresFound (graph n g.lower g.upper g.lengths) r (at parents) (at w.mu) (at w.nu) imbalances potentials imbalances' potentials') where
-      found : FiguresFound g w.root (at w.parents) (at w.mu) (at w.nu) imbalances potentials imbalances' potentials'
-      found =
-          given_holds given-all.0 (checked.lengths z) held
-          (λ h s p. FiguresFound h s p (at w.mu) (at w.nu) imbalances potentials imbalances' potentials') promise
+  module _ {imbalances potentials imbalances' potentials' : List ℤ} (i : 64 ≤ length imbalances) (u : 64 ≤ length potentials)
+      (promise : LengthsTo (graph n g.lower g.upper g.lengths) r (at parents) (at above')
+      → FiguresFound (graph n g.lower g.upper g.lengths) r (at parents) (at w.mu) (at w.nu) imbalances potentials imbalances' potentials') where
+    found : FiguresFound g w.root (at w.parents) (at w.mu) (at w.nu) imbalances potentials imbalances' potentials'
+    found =
+        given_holds given-all.0 (checked.lengths refl) held
+        (λ h s p. FiguresFound h s p (at w.mu) (at w.nu) imbalances potentials imbalances' potentials') promise
 
-      imbalance-at : (x : ℕ) → x < g.n → figure imbalances' x ≡ imbalance_of g w x
-      imbalance-at x l = rw found.imbalance_is (front_at g.n _ imbalances (pos 0) x l)
+    imbalance-at : (x : ℕ) → x < g.n → figure imbalances' x ≡ imbalance_of g w x
+    imbalance-at x l = rw found.imbalance_is (front_at g.n _ imbalances (pos 0) x l)
 
-      potential-at : (x : ℕ) → x < g.n → figure potentials' x ≡ potential_of g w x
-      potential-at x l = rw found.potential_is (front_at g.n _ potentials (pos 0) x l)
+    potential-at : (x : ℕ) → x < g.n → figure potentials' x ≡ potential_of g w x
+    potential-at x l = rw found.potential_is (front_at g.n _ potentials (pos 0) x l)
 
-      pub printable : Printable g.n w.root w.parents imbalances' potentials'
-      printable =
-          let a = given-all.0 in
-          record {
-            few = few a;
-            tree = rooted a;
-            long_parents = omega (arith, a.long_parents);
-            long_imbalances = omega (arith, few a, ap length found.imbalance_is, front_length g.n (imbalance_of g w) imbalances (omega (arith, few a)));
-            long_potentials = omega (arith, few a, ap length found.potential_is, front_length g.n (potential_of g w) potentials (omega (arith, few a)));
-            imbalances_fit = λ x l. rw (imbalance-at x l) (omega (arith, mag-le (imbalance_of g w x), imbalance_bound a x));
-            potentials_fit = λ x l. rw (potential-at x l) (omega (arith, mag-le (potential_of g w x), potential_bound a x));
-          }
+    pub printable : Printable g.n w.root w.parents imbalances' potentials'
+    printable =
+        let a = given-all.0 in
+        record {
+          few = few a;
+          tree = rooted a;
+          long_parents = omega (arith, a.long_parents);
+          long_imbalances = omega (arith, few a, ap length found.imbalance_is, front_length g.n (imbalance_of g w) imbalances (omega (arith, few a)));
+          long_potentials = omega (arith, few a, ap length found.potential_is, front_length g.n (potential_of g w) potentials (omega (arith, few a)));
+          imbalances_fit = λ x l. rw (imbalance-at x l) (omega (arith, mag-le (imbalance_of g w x), imbalance_bound a x));
+          potentials_fit = λ x l. rw (potential-at x l) (omega (arith, mag-le (potential_of g w x), potential_bound a x));
+        }
 
-      pub page_done : {filled : ℕ} {buffer' : List ℕ} → filled ≡ 96 * g.n
-          → buffer' ≡ written 0 (page g.n w.root (at w.parents) (figure imbalances') (figure potentials')) buffer
-          → PageWritten g w buffer 0 filled buffer'
-      unfolding page_refusal
-      page_done e f = record {
-        refusal = sym z ∙ checked.number;
-        length_is = e;
-        bytes_are = f ∙ ap (λ (t : List ℕ). written 0 t buffer) (page_ext (rooted given-all.0) imbalance-at potential-at);
-      }
+    pub page_done : {filled : ℕ} {buffer' : List ℕ} → filled ≡ 96 * g.n
+        → buffer' ≡ written 0 (page g.n w.root (at w.parents) (figure imbalances') (figure potentials')) buffer
+        → PageWritten g w buffer 0 filled buffer'
+    unfolding page_refusal
+    page_done e f = record {
+      refusal = checked.number;
+      length_is = e;
+      bytes_are = f ∙ ap (λ (t : List ℕ). written 0 t buffer) (page_ext (rooted given-all.0) imbalance-at potential-at);
+    }

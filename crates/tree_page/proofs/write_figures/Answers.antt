@@ -4,17 +4,10 @@ use Rattle.graph.specs.Graph.{graph}
 use Rattle.tree_evaluation.proofs.Laws.Evaluate.{potential_asked, potential-from}
 use Rattle.tree_page.proofs.write_figures.Goals as goal
 
-pub write_potential-requires-clause-n_bound : goal.write_potential-requires-clause-n_bound
-write_potential-requires-clause-n_bound c =
-    (potential_asked c.requires.0 c.tree_flow.ensures.words (omega (arith, c.requires.0.few)) c.tree_flow.ensures.figures c.requires.1).0
-
-pub write_potential-requires-clause-long : goal.write_potential-requires-clause-long
-write_potential-requires-clause-long c =
-    (potential_asked c.requires.0 c.tree_flow.ensures.words (omega (arith, c.requires.0.few)) c.tree_flow.ensures.figures c.requires.1).1.0
-
-pub write_potential-requires-clause-lengths : goal.write_potential-requires-clause-lengths
-write_potential-requires-clause-lengths c =
-    (potential_asked c.requires.0 c.tree_flow.ensures.words (omega (arith, c.requires.0.few)) c.tree_flow.ensures.figures c.requires.1).1.1
+pub write_potential-requires : goal.write_potential-requires
+write_potential-requires c =
+    let a = potential_asked c.requires.0 c.tree_flow.ensures.words (omega (arith, c.requires.0.few)) c.tree_flow.ensures.figures c.requires.1 in
+    record { n_bound = a.0; long = a.1.0; lengths = a.1.1 }
 
 pub returns : goal.returns
 returns c =

@@ -2,11 +2,12 @@
 use mathlib.Core.Path.{◌≡◌, refl, ◌∙◌}
 use mathlib.Core.Bool.{Bool}
 use mathlib.Core.List.{List}
-use Prim.Native.Nat.{ℕ, ◌-◌, ◌≤◌}
+use Prim.Native.Nat.{ℕ, ◌+◌, ◌-◌, ◌^◌, ◌≤◌, ◌<◌}
 use native.Mathlib.Omega.{arith}
 use lib.ListN.{set}
+use Rattle.std.specs.Prelude.{MatchBool}
 use Rattle.arithmetic.specs.Table.{at}
-use Rattle.vertex_set.specs.Steps.Shift.{shifted, Room}
+use Rattle.vertex_set.proofs.Laws.Shift.{room_fits, shifted_is}
 use Rattle.tree_pivot.specs.Steps.PathWalk.{Handed}
 use Rattle.tree_pivot.specs.Steps.PivotTables.{CanShift, CanComplement, PathShifted, PathComplemented}
 use Rattle.tree_pivot.proofs.Laws.PathWalk.{OnPath, path_met, hand_none, hand_more, stored_none, stored_kept, stored_more, stored_end}
@@ -14,13 +15,15 @@ use Rattle.tree_pivot.proofs.Laws.PathWalk.{OnPath, path_met, hand_none, hand_mo
 -- ---- one vertex of a walk
 module _ {n r : ℕ} {p : List ℕ} {from stop : ℕ} {rises : Bool} {d : ℕ} {t : List ℕ} (can : CanShift n r p from stop rises d t)
     {y : ℕ} (on : OnPath n (at p) from stop y) (go : y ≡ stop → ⊥) {u : List ℕ} (w : PathShifted n p from y rises d t u) where
-  pub shift_room : Room 64 rises d (at u y)
-  shift_room = rw (stored_kept can.store.walk on w) (can.room y on.low (path_met can.store.walk on go))
+  pub shift_room : MatchBool rises (at u y + d < 2 ^ 64) (d ≤ at u y)
+  shift_room =
+      rw (stored_kept can.store.walk on w)
+      (room_fits 64 rises d (at t y) (can.room y on.low (path_met can.store.walk on go)))
 
-  pub shift_more : {k : ℕ} → k ≡ shifted rises d (at u y) → PathShifted n p from (at p y) rises d t (set u y k)
-  shift_more e =
+  pub shift_more : (k : ℕ) → MatchBool rises (k ≡ at u y + d) (k ≡ at u y - d) → PathShifted n p from (at p y) rises d t (set u y k)
+  shift_more k e =
       stored_more can.store.walk on w go _ (omega (arith, on.low, can.store.few, can.store.size))
-      (e ∙ rw (stored_kept can.store.walk on w))
+      (shifted_is rises d (at u y) k e ∙ rw (stored_kept can.store.walk on w))
 
 -- the path before y is done, and y is handed e
 pub record Complementing (n : ℕ) (p : List ℕ) (a y total : ℕ) (t u : List ℕ) (e : ℕ) : Type 0 where

@@ -3,21 +3,10 @@ use Rattle.tree_pivot.proofs.Laws.PathWalk.{path_none, path_more, path_less, han
 use Rattle.tree_pivot.proofs.Laws.PathReversal.{can_turn, turned}
 use Rattle.tree_pivot.proofs.reverse_path.Goals as goal
 
-pub overflow_cast-stop : goal.overflow_cast-stop
-overflow_cast-stop c = omega (arith, c.requires.1.tree.into _ c.requires.1.c_low)
-
 pub loop-y-init : goal.loop-y-init
 loop-y-init c =
     let walk = can_turn c.requires.1 in
     (path_none walk, ((stored_none walk, (c.requires.1.b_low, hand_none walk _ _)), (stored_none walk, hand_none walk _ _)))
-
-pub overflow_cast-next : goal.overflow_cast-next
-overflow_cast-next c =
-    let inv = c.loop-y.invariant in
-    omega (arith, stored_kept (can_turn c.requires.1) inv.0 inv.1.0.0, c.requires.1.tree.into _ inv.0.low)
-
-pub overflow_cast-parents : goal.overflow_cast-parents
-overflow_cast-parents c = omega (arith, c.loop-y.invariant.1.0.1.0)
 
 pub loop-y-smaller : goal.loop-y-smaller
 loop-y-smaller c =

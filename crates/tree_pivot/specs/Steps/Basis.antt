@@ -5,6 +5,7 @@ use Rattle.arithmetic.specs.Table.{at}
 use Rattle.rooted_tree.specs.Steps.Rooted.{Rooted}
 use Rattle.rooted_tree.specs.Steps.Subtotal.{subtotal}
 use Rattle.graph.specs.Graph.{Graph, graph, joined, edge_length}
+use Rattle.tree_pivot.specs.declared.Basis.{Basis}
 use Rattle.tree_pivot.specs.Steps.PivotTables.{Totals}
 use Rattle.tree_pivot.specs.Steps.SubtreeMasks.{Masks}
 use Rattle.tree_pivot.specs.Steps.PivotCost.{Potential}
@@ -22,6 +23,10 @@ pub record Tables : Type 0 where
 abbrev pub tables : (parents above supply demand masks potential : List ℕ) → Tables
 tables parents above supply demand masks potential =
     record { parents = parents; above = above; supply = supply; demand = demand; masks = masks; potential = potential }
+
+-- those of a basis as the code has it
+abbrev pub tables_of : Basis → Tables
+tables_of b = tables b.parents b.above b.subtrees.supply b.subtrees.demand b.subtrees.masks b.potential
 
 -- each has 64 places
 pub record Places (t : Tables) : Type 0 where
@@ -46,7 +51,7 @@ pub record Network (g : Graph) (m v : ℕ → ℕ) : Type 0 where
 abbrev pub ground_potential : ℕ
 ground_potential = 2 ^ 23
 
-pub record Basis (g : Graph) (m v : ℕ → ℕ) (t : Tables) : Type 0 where
+pub record IsBasis (g : Graph) (m v : ℕ → ℕ) (t : Tables) : Type 0 where
   pub network : Network g m v
   pub places : Places t
   pub tree : Rooted g.n 0 (at t.parents)

@@ -5,7 +5,7 @@ use Rattle.rooted_tree.specs.Chain.{below}
 use Rattle.rooted_tree.specs.Steps.Flow.{flow_cost}
 use Rattle.graph.specs.Graph.{Graph, joined, edge_length}
 use Rattle.tree_pivot.specs.Steps.PivotPotential.{Enters}
-use Rattle.tree_pivot.specs.Steps.Basis.{Tables, Basis}
+use Rattle.tree_pivot.specs.Steps.Basis.{Tables, IsBasis}
 
 -- j is above a and above b
 pub record CommonAncestor (n : ℕ) (p : ℕ → ℕ) (a b j : ℕ) : Type 0 where
@@ -15,7 +15,7 @@ pub record CommonAncestor (n : ℕ) (p : ℕ → ℕ) (a b j : ℕ) : Type 0 whe
 
 -- the edge between a and b, of length `long`, enters the tree, and the edge above c leaves it
 pub record CanPivot (g : Graph) (m v : ℕ → ℕ) (a b c long : ℕ) (rises : Bool) (t : Tables) : Type 0 where
-  pub basis : Basis g m v t
+  pub basis : IsBasis g m v t
   pub a_low : a < g.n
   pub b_low : b < g.n
   pub edge : joined g a b ≡ true
@@ -28,5 +28,5 @@ basis_flow_cost g m v t = flow_cost g.n 0 (at t.parents) (λ x. edge_length g x 
 
 -- the basis has become a cheaper one of the same graph and masses
 pub record CheaperBasis (g : Graph) (m v : ℕ → ℕ) (t t' : Tables) : Type 0 where
-  pub basis : Basis g m v t'
+  pub basis : IsBasis g m v t'
   pub cheaper : basis_flow_cost g m v t' < basis_flow_cost g m v t

@@ -62,9 +62,9 @@ module _ (n : ℕ) (p : ℕ → ℕ) where
   abbrev pub masks_to : ℕ → ℕ → ℕ
   masks_to k x = mask k (λ y. below p n y x)
 
-  pub masks_none : {old new : List ℕ} → Filled n (λ _. 0) old new → Filled n (masks_to 0) new new
+  pub masks_none : {old new : List ℕ} → Filled n (λ _. 0) old new → Filled n (masks_to 0) old new
   unfolding mask
-  masks_none w = record { size = refl; each = w.each }
+  masks_none w = w
 
   masks_step : (k x : ℕ) → cond (below p n k x) (bit_or (masks_to k x) (2 ^ k)) (masks_to k x) ≡ masks_to (k + 1) x
   masks_step k x =
@@ -78,6 +78,5 @@ module _ (n : ℕ) (p : ℕ → ℕ) where
     each = λ x l. u.each x ∙ ap (λ (v : ℕ). cond (below p n k x) (bit_or v (2 ^ k)) v) (w.each x l) ∙ masks_step k x;
   }
 
-  pub masks_end : (k : ℕ) {old mid new : List ℕ} → k ≤ n → n ≤ k → Filled n (λ _. 0) old mid → Filled n (masks_to k) mid new
-      → Filled n (masks_to n) old new
-  masks_end k h l w u = record { size = u.size ∙ w.size; each = rw (le_antisymm h l) at u.each }
+  pub masks_end : (k : ℕ) {old new : List ℕ} → k ≤ n → n ≤ k → Filled n (masks_to k) old new → Filled n (masks_to n) old new
+  masks_end k h l w = rw (le_antisymm h l) at w

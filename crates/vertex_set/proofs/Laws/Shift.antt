@@ -2,17 +2,27 @@
 use mathlib.Core.Path.{◌≡◌, refl, sym, ◌∙◌}
 use mathlib.Core.Bool.{Bool, true, false}
 use mathlib.Core.List.{List}
-use Prim.Native.Nat.{ℕ, ◌-◌, ◌*◌, ◌%◌, ◌^◌, ◌≤◌, ◌<◌}
+use Prim.Native.Nat.{ℕ, ◌+◌, ◌-◌, ◌*◌, ◌%◌, ◌^◌, ◌≤◌, ◌<◌}
 use native.Mathlib.Nat.{zero-div}
 use native.Mathlib.Omega.{arith}
 use lib.ListN.{length, set, length-set}
 use lib.Seq.{get_or-set_same, get_or-set_other}
+use Rattle.std.specs.Prelude.{MatchBool}
 use Rattle.arithmetic.specs.Table.{at}
 use Rattle.arithmetic.specs.Steps.Mask.{bit}
 use Rattle.arithmetic.proofs.Laws.Bools.{case≡, clash}
 use Rattle.vertex_set.specs.Lowest.{lowest}
 use Rattle.vertex_set.specs.Steps.Shift.{shifted, Room, CanShiftWord, shifted_within, WordShifted}
 use Rattle.vertex_set.proofs.Laws.Without.{Without, without-lowest}
+
+-- what the generic `shifted` asks and gives, at words of w bits
+pub room_fits : (w : ℕ) (rises : Bool) (d u : ℕ) → Room w rises d u → MatchBool rises (u + d < 2 ^ w) (d ≤ u)
+room_fits w true d u h = h
+room_fits w false d u h = h
+
+pub shifted_is : (rises : Bool) (d u k : ℕ) → MatchBool rises (k ≡ u + d) (k ≡ u - d) → k ≡ shifted rises d u
+shifted_is true d u k h = h
+shifted_is false d u k h = h
 
 -- there is room for less where there is for more
 pub room_less : (w : ℕ) (rises : Bool) (d e u : ℕ) → d ≤ e → Room w rises e u → Room w rises d u

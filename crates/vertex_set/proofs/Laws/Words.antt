@@ -1,8 +1,8 @@
 -- Words of vertices: two words joined, a vertex put in, and a word that is built from its lowest bit.
 use mathlib.Core.Path.{◌≡◌, refl, sym, ap, ◌∙◌}
 use mathlib.Core.Bool.{Bool, true, false, not, ◌&&◌, ◌||◌}
-use Prim.Native.Nat.{ℕ, zero, suc, ◌+◌, ◌*◌, ◌/◌, ◌%◌, ◌≤◌, ◌<◌, ◌^◌}
-use native.Mathlib.Nat.{one-mul, le_antisymm, mod-lt}
+use Prim.Native.Nat.{ℕ, zero, suc, ◌+◌, ◌*◌, ◌/◌, ◌%◌, ◌<◌, ◌^◌}
+use native.Mathlib.Nat.{one-mul, mod-lt}
 use native.Mathlib.Numerals.{add-one}
 use native.Mathlib.Omega.{arith}
 use lib.Bits.{bit_and, bit_or, and_block, or_block, or_shr, or_mod, or_shifted_r}
@@ -92,6 +92,3 @@ mask_under m f w e = rw e (mask_lt m f)
 pub mask_step : (m : ℕ) (f : ℕ → Bool) (w v : ℕ) → w ≡ mask m f → v ≡ w + pick (f m) (2 ^ m) → v ≡ mask (m + 1) f
 unfolding mask
 mask_step m f w v e g = rw (add-one, ← e) g
-
-pub mask_end : (n m : ℕ) (f : ℕ → Bool) (w : ℕ) → m ≤ n → n ≤ m → w ≡ mask m f → w ≡ mask n f
-mask_end n m f w l k e = rw (le_antisymm l k) at e

@@ -6,4 +6,4 @@ use Rattle.cost_sheet.proofs.Sheet.new.Goals as goal
 -- `Sheet::new` meets its contract.
 pub returns : goal.returns
 unfolding tab
-returns c = tells_none _ _ refl
+returns c = tells_none _ refl

@@ -1,4 +1,4 @@
-use Rattle.std.proofs.Common.{◌≡◌, ◌≤◌, ◌-◌}
+use Rattle.std.proofs.Common.{◌≡◌}
 use Rattle.distances.specs.Records.{lower_of, upper_of, length_of}
 use Rattle.distances.specs.Steps.Records.{column}
 use Rattle.distances.proofs.records.take_apart.Given as goal
@@ -6,8 +6,4 @@ use Rattle.distances.proofs.records.take_apart.Given as goal
 -- The columns of the first i edges are in the three tables.
 abbrev pub invariant-loop-i : goal.invariant-loop-i
 invariant-loop-i l =
-    (l.i ≤ l.m) × (
-    (l.a ≡ column lower_of l.edges l.i) × ((l.b ≡ column upper_of l.edges l.i) × (l.lengths ≡ column length_of l.edges l.i)))
-
-abbrev pub decreases-loop-i : goal.decreases-loop-i
-decreases-loop-i l = l.m - l.i
+    (l.a ≡ column lower_of l.edges l.i) × (l.b ≡ column upper_of l.edges l.i) × (l.lengths ≡ column length_of l.edges l.i)

@@ -1,10 +1,6 @@
-use Prim.Native.Nat.{◌-◌}
 use Rattle.arithmetic.specs.Steps.Fill.{Filling}
 use Rattle.first_basis.specs.Steps.TreePotential.{potential_at}
 use Rattle.first_basis.proofs.potential.potential.Given as goal
 
 abbrev pub invariant-loop-y : goal.invariant-loop-y
-invariant-loop-y l = Filling l.n (potential_at l.n l.parents l.above l.supply l.demand) l.initial.out l.out l.y
-
-abbrev pub decreases-loop-y : goal.decreases-loop-y
-decreases-loop-y l = l.n - l.y
+invariant-loop-y l = Filling l.n (potential_at l.n l.parents l.above l.subtrees.supply l.subtrees.demand) l.initial.out l.out l.y

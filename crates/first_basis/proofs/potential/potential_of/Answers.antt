@@ -1,7 +1,7 @@
 use native.Mathlib.Omega.{arith}
 use Rattle.first_basis.proofs.Laws.TreePotential.{from_none, from_end, from_less, from_fits, from_more, from_enough, from_fewer}
 use Rattle.first_basis.proofs.potential.potential_of.Goals as goal
-use Rattle.first_basis.proofs.potential.potential_of.Goals.{then-demand-x, else-demand-x}
+use Rattle.first_basis.proofs.potential.potential_of.Goals.{then-subtrees-x, else-subtrees-x}
 
 pub loop-x-init : goal.loop-x-init
 loop-x-init c = from_none c.requires.0 c.requires.1
@@ -12,7 +12,7 @@ overflow_add-u c =
 
 pub overflow_sub-u : goal.overflow_sub-u
 overflow_sub-u c =
-    from_enough c.requires.0 c.loop-x.invariant c.loop-x-test.true c.if-demand-x.false
+    from_enough c.requires.0 c.loop-x.invariant c.loop-x-test.true c.if-subtrees-x.false
 
 pub overflow_cast-x : goal.overflow_cast-x
 overflow_cast-x c =
@@ -27,9 +27,9 @@ loop-x-preserved c =
     let can = c.requires.0 in
     let inv = c.loop-x.invariant in
     let go = c.loop-x-test.true in
-    elim c.if-demand-x.branch [
-      | then-demand-x w ↦ rw w.u-is (from_more can inv go w.if-demand-x.true)
-      | else-demand-x w ↦ rw w.u-is (from_fewer can inv go w.if-demand-x.false)
+    elim c.if-subtrees-x.branch [
+      | then-subtrees-x w ↦ rw w.u-is (from_more can inv go w.if-subtrees-x.true)
+      | else-subtrees-x w ↦ rw w.u-is (from_fewer can inv go w.if-subtrees-x.false)
     ]
 
 pub returns : goal.returns

@@ -1,4 +1,3 @@
-use Prim.Native.Nat.{◌-◌}
 use Rattle.arithmetic.specs.Table.{at}
 use Rattle.little_endian.specs.LittleEndian.{fields}
 use Rattle.little_endian.proofs.Laws.Buffer.{Placing}
@@ -6,6 +5,3 @@ use Rattle.image_sections.proofs.write.write_amounts.Given as goal
 
 abbrev pub invariant-loop-i : goal.invariant-loop-i
 invariant-loop-i l = Placing 0 l.n (λ i. fields 4 i (at l.amounts)) l.initial.out l.i l.out
-
-abbrev pub decreases-loop-i : goal.decreases-loop-i
-decreases-loop-i l = l.n - l.i

@@ -1,25 +1,14 @@
-use borrow.Author.Rules.{rules}
 use Rattle.network_simplex.proofs.Laws.Search.{best-tree}
 use Rattle.network_simplex.proofs.search.best_tree.Goals as goal
 
 -- `best_tree` meets its contract: the first basis becomes an optimal one, which certifies its tree. Assumes nothing.
-pub tree_basis-requires : goal.tree_basis-requires
-tree_basis-requires c = (
-  record { a = c.args.a.now; b = c.args.b.now; can = c.requires.0 },
-  record {
-    parents = c.requires.0.parents_size;
-    above = c.requires.1.0;
-    supply = search rules;
-    demand = search rules;
-    masks = search rules;
-    potential = c.requires.1.1;
-  },
-)
+pub tree_basis-basis-requires : goal.tree_basis-basis-requires
+tree_basis-basis-requires c = record { a = c.args.problem.now.graph.a.now; b = c.args.problem.now.graph.b.now; can = c.requires }
 
 pub search-requires : goal.search-requires
 search-requires c =
-    record { accepted = c.requires.0.accepted; m = _; v = _; basis = c.tree_basis.ensures c.args.a.now c.args.b.now c.requires.0 }
+    record { accepted = c.requires.accepted; m = _; v = _; basis = c.tree_basis-basis.ensures c.args.problem.now.graph.a.now c.args.problem.now.graph.b.now c.requires }
 
 pub returns : goal.returns
 returns c =
-    best-tree c.requires.0 (c.search.ensures _ _ (c.tree_basis.ensures c.args.a.now c.args.b.now c.requires.0)) c.new.ensures
+    best-tree c.requires (c.search.ensures _ _ (c.tree_basis-basis.ensures c.args.problem.now.graph.a.now c.args.problem.now.graph.b.now c.requires)) c.new.ensures

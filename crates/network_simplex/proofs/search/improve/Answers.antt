@@ -14,9 +14,9 @@ pub pivot-requires : goal.pivot-requires
 pivot-requires c =
     let falls = falling c.requires.0.accepted c.requires.1 c.requires.2 c.downhill_edge-edge.ensures in
     record {
-      lower = c.args.a.now;
-      upper = c.args.b.now;
-      lengths = c.args.lengths.now;
+      lower = c.args.g.now.a.now;
+      upper = c.args.g.now.b.now;
+      lengths = c.args.g.now.lengths.now;
       m = c.requires.0.m;
       v = c.requires.0.v;
       holds = (can_pivot c.requires.0.basis falls _ c.exchange-x.ensures.0 c.exchange-x.ensures.1.leaves, c.exchange-x.ensures.1.ancestor);
@@ -25,5 +25,5 @@ pivot-requires c =
 pub returns : goal.returns
 returns c = λ m v basis.
     let falls = falling c.requires.0.accepted c.requires.1 c.requires.2 c.downhill_edge-edge.ensures in
-    c.pivot.ensures c.args.a.now c.args.b.now c.args.lengths.now m v
+    c.pivot.ensures c.args.g.now.a.now c.args.g.now.b.now c.args.g.now.lengths.now m v
     (can_pivot basis falls _ c.exchange-x.ensures.0 c.exchange-x.ensures.1.leaves)

@@ -1,12 +1,12 @@
-use Rattle.graph.specs.Graph.{graph}
-use Rattle.tree_pivot.specs.Steps.Basis.{tables}
-use Rattle.pricing.specs.Steps.Entering.{MostViolated}
+use Rattle.graph.specs.Graph.{graph_of}
+use Rattle.tree_pivot.specs.Steps.Basis.{tables_of}
+use Rattle.pricing.specs.Steps.Entering.{Entering}
 use Rattle.network_simplex.proofs.Laws.Search.{basis_cost, Kept}
 use Rattle.network_simplex.proofs.search.search.Given as goal
 
-abbrev pub invariant-loop-e : goal.invariant-loop-e
-invariant-loop-e l = MostViolated (graph l.n l.a l.b l.lengths) l.potential l.e
-    × Kept (graph l.n l.a l.b l.lengths) (tables l.initial.parents l.initial.above l.initial.supply l.initial.demand l.initial.masks l.initial.potential) (tables l.parents l.above l.supply l.demand l.masks l.potential)
+abbrev pub invariant-loop-entering : goal.invariant-loop-entering
+invariant-loop-entering l = Entering (graph_of l.g) l.basis.potential l.entering
+    × Kept (graph_of l.g) (tables_of l.initial.basis) (tables_of l.basis)
 
-abbrev pub decreases-loop-e : goal.decreases-loop-e
-decreases-loop-e l = basis_cost l.n l.above l.supply l.demand
+abbrev pub decreases-loop-entering : goal.decreases-loop-entering
+decreases-loop-entering l = basis_cost l.g.n l.basis.above l.basis.subtrees.supply l.basis.subtrees.demand

@@ -1,19 +1,20 @@
-use mathlib.Core.Path.{sym}
-use native.Mathlib.Omega.{arith}
-use borrow.Author.Tests.{eq-eqb, ne_eqb}
-use Rattle.arithmetic.proofs.Laws.Bools.{all_none, all_more, all_fails, all_end}
+use mathlib.Core.Path.{◌≡◌, ap, ◌∙◌}
+use mathlib.Core.List.{List}
+use Prim.Native.Nat.{ℕ}
+use lib.Dec.{eqb}
+use lib.ListN.{length, take}
+use Rattle.std.proofs.lemmas.List.{length-take-le, get_or-take}
+use Rattle.std.proofs.Common.{rules}
+use Rattle.arithmetic.specs.Bools.{all}
+use Rattle.arithmetic.specs.Table.{at}
+use Rattle.arithmetic.proofs.Laws.Bools.{all_ext}
+use Rattle.arithmetic.proofs.Laws.Slices.{all_entries}
 use Rattle.tree_checks.proofs.chains.all_equal.Goals as goal
 
-pub loop-x-init : goal.loop-x-init
-loop-x-init c = (omega arith, all_none _)
-
-pub returns-then-table-x : goal.returns-then-table-x
-returns-then-table-x c =
-    sym (all_fails _ _ _ c.loop-x-test.true (ne_eqb _ _ c.if-table-x.true))
-
-pub loop-x-preserved : goal.loop-x-preserved
-loop-x-preserved c =
-    (omega arith, all_more _ _ c.loop-x.invariant.1 (eq-eqb _ _ c.if-table-x.false))
-
 pub returns : goal.returns
-returns c = all_end _ _ _ c.loop-x.invariant.0 c.loop-x-test.false c.loop-x.invariant.1
+returns c =
+    let front : List ℕ = take c.args.n c.args.table.now in
+    let size : length front ≡ c.args.n = length-take-le c.args.n c.args.table.now (search rules) in
+    all_entries c.all.result front (λ x. eqb (at front x) c.args.value) (search rules)
+    ∙ ap (λ (m : ℕ). all m (λ x. eqb (at front x) c.args.value)) size
+    ∙ all_ext c.args.n _ _ (λ x l. ap (λ (v : ℕ). eqb v c.args.value) (get_or-take c.args.n c.args.table.now x 0 l))

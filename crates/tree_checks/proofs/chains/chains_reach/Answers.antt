@@ -3,17 +3,10 @@ use native.Mathlib.Omega.{arith}
 use Rattle.tree_checks.proofs.Laws.Doubling.{ahead_first, ahead_end}
 use Rattle.tree_checks.proofs.chains.chains_reach.Goals as goal
 
-pub first_steps-ahead-requires : goal.first_steps-ahead-requires
-first_steps-ahead-requires c = (omega arith, omega arith)
-
 pub loop-steps-init : goal.loop-steps-init
 loop-steps-init c =
     let f = c.first_steps-ahead in
     (omega arith, ahead_first c.requires.tree f.result (omega (arith, f.ensures.0)) f.ensures.1)
-
-pub double_steps-requires : goal.double_steps-requires
-double_steps-requires c =
-    (omega arith, c.loop-steps.invariant.1.inside)
 
 pub loop-steps-preserved : goal.loop-steps-preserved
 loop-steps-preserved c =

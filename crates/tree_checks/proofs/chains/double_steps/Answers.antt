@@ -5,23 +5,15 @@ use Rattle.tree_checks.proofs.Laws.Doubling.{doubling_none, doubling_more, doubl
 use Rattle.tree_checks.proofs.chains.double_steps.Goals as goal
 
 pub loop-x-init : goal.loop-x-init
-loop-x-init c = (omega arith, doubling_none c.requires.1)
+loop-x-init c = doubling_none c.requires.1
 
 pub overflow_cast-ahead : goal.overflow_cast-ahead
 overflow_cast-ahead c =
-    let entry-low : at c.loop-x.ahead c.loop-x.x < c.args.n = c.loop-x.invariant.1.inside.low _ c.loop-x-test.true in omega (arith, entry-low)
-
-pub offset_bounds-ahead-ahead : goal.offset_bounds-ahead-ahead
-offset_bounds-ahead-ahead c =
-    let entry-low : at c.loop-x.ahead c.loop-x.x < c.args.n = c.loop-x.invariant.1.inside.low _ c.loop-x-test.true in omega (arith, entry-low)
-
-pub bounds-ahead-ahead : goal.bounds-ahead-ahead
-bounds-ahead-ahead c =
-    let entry-low : at c.loop-x.ahead c.loop-x.x < c.args.n = c.loop-x.invariant.1.inside.low _ c.loop-x-test.true in omega (arith, entry-low)
+    let entry-low : at c.loop-x.ahead c.loop-x.x < c.args.n = c.loop-x.invariant.inside.low _ c.loop-x-test.true in omega (arith, entry-low)
 
 pub loop-x-preserved : goal.loop-x-preserved
 loop-x-preserved c =
-    (omega arith, doubling_more c.loop-x.invariant.1 c.loop-x-test.true)
+    doubling_more c.loop-x.invariant c.loop-x-test.true
 
 pub returns : goal.returns
-returns c = doubling_end c.loop-x.invariant.1 c.loop-x-test.false
+returns c = doubling_end c.loop-x.invariant c.loop-x-test.false

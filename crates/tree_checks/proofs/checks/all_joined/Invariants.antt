@@ -1,4 +1,3 @@
-use Prim.Native.Nat.{◌-◌, ◌≤◌}
 use mathlib.Core.Path.{◌≡◌}
 use mathlib.Core.Bool.{true, ◌||◌}
 use lib.Dec.{eqb}
@@ -7,7 +6,4 @@ use Rattle.graph.specs.Checks.{marked}
 use Rattle.tree_checks.proofs.checks.all_joined.Given as goal
 
 abbrev pub invariant-loop-x : goal.invariant-loop-x
-invariant-loop-x l = (l.x ≤ l.n) × (all l.x (λ z. eqb z l.root || marked l.joined z) ≡ true)
-
-abbrev pub decreases-loop-x : goal.decreases-loop-x
-decreases-loop-x l = l.n - l.x
+invariant-loop-x l = all l.x (λ z. eqb z l.root || marked l.joined z) ≡ true

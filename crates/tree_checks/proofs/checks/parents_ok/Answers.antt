@@ -11,9 +11,6 @@ returns-then-root-n c = parents_fail _ _ _ (λ t. omega (arith, t.root))
 pub returns-then-parents-root : goal.returns-then-parents-root
 returns-then-parents-root c = parents_fail _ _ _ (λ t. c.if-parents-root.true t.stay)
 
-pub loop-x-init : goal.loop-x-init
-loop-x-init c = (omega arith, λ z l. absurd (omega arith))
-
 pub returns-then-y-n : goal.returns-then-y-n
 returns-then-y-n c = parents_fail _ _ _ (λ t. omega (arith, t.into c.loop-x.x (omega arith)))
 
@@ -21,13 +18,13 @@ pub returns-then-x-root : goal.returns-then-x-root
 returns-then-x-root c = parents_fail _ _ _ (λ t. c.if-x-root.true (t.alone c.loop-x.x (omega arith) c.if-y-x.true))
 
 pub loop-x-preserved : goal.loop-x-preserved
-loop-x-preserved c = (omega arith, below_more _ _ c.loop-x.invariant.1 (c.if-y-n.false, λ e. elim c.if-y-x.branch [ then-y-x+else-x-root w ↦ w.if-x-root.false | else-y-x w ↦ absurd (w.if-y-x.false e) ]))
+loop-x-preserved c = below_more _ _ c.loop-x.invariant (c.if-y-n.false, λ e. elim c.if-y-x.branch [ then-y-x+else-x-root w ↦ w.if-x-root.false | else-y-x w ↦ absurd (w.if-y-x.false e) ])
 
 pub returns : goal.returns
 returns c =
     sym (parents_hold _ _ _ (record {
       root = c.if-root-n.false;
-      into = λ x l. (c.loop-x.invariant.1 x (omega arith)).0;
+      into = λ x l. (c.loop-x.invariant x (omega arith)).0;
       stay = c.if-parents-root.false;
-      alone = λ x l. (c.loop-x.invariant.1 x (omega arith)).1;
+      alone = λ x l. (c.loop-x.invariant x (omega arith)).1;
     }))

@@ -1,10 +1,7 @@
-use Prim.Native.Nat.{ℕ, ◌-◌, ◌≤◌, ◌<◌}
+use Prim.Native.Nat.{ℕ, ◌<◌}
 use mathlib.Core.Path.{◌≡◌}
 use Rattle.arithmetic.specs.Table.{at}
 use Rattle.tree_checks.proofs.checks.parents_ok.Given as goal
 
 abbrev pub invariant-loop-x : goal.invariant-loop-x
-invariant-loop-x l = (l.x ≤ l.n) × ((z : ℕ) → z < l.x → (at l.parents z < l.n) × (at l.parents z ≡ z → z ≡ l.root))
-
-abbrev pub decreases-loop-x : goal.decreases-loop-x
-decreases-loop-x l = l.n - l.x
+invariant-loop-x l = (z : ℕ) → z < l.x → (at l.parents z < l.n) × (at l.parents z ≡ z → z ≡ l.root)

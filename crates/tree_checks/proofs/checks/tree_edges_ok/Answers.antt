@@ -1,18 +1,13 @@
 use mathlib.Core.Path.{sym, ◌∙◌}
-use Rattle.graph.specs.Graph.{graph}
+use Rattle.graph.specs.Graph.{graph_of}
 use Rattle.graph.proofs.Laws.Accepted.{lists_in}
 use Rattle.tree_checks.proofs.Laws.Edges.{noted_lengths, noted_answer}
 use Rattle.tree_checks.proofs.checks.tree_edges_ok.Goals as goal
 
 pub note_edges-requires-clause-lists : goal.note_edges-requires-clause-lists
 note_edges-requires-clause-lists c =
-    let g = graph c.args.n c.args.a.now c.args.b.now c.args.lengths.now in
+    let g = graph_of c.args.g.now in
     lists_in g c.requires.graph.0
-
-pub note_edges-requires-clause-order : goal.note_edges-requires-clause-order
-note_edges-requires-clause-order c =
-    let g = graph c.args.n c.args.a.now c.args.b.now c.args.lengths.now in
-    c.requires.graph.1
 
 pub returns-clause-answer : goal.returns-clause-answer
 returns-clause-answer c =

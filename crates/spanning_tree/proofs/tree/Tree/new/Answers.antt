@@ -1,17 +1,10 @@
-use mathlib.Core.Path.{refl}
-use native.Mathlib.Omega.{arith}
-use Rattle.arithmetic.proofs.Laws.Fill.{filling_none, filling_more, filling_end}
-use Rattle.spanning_tree.proofs.Laws.Valid.{listed_here, held_all}
+use mathlib.Core.Path.{refl, ap, ◌∙◌}
+use Prim.Native.Nat.{ℕ, min}
+use lib.ListN.{length, replicate}
+use Rattle.spanning_tree.proofs.Laws.Valid.{held_all}
 use Rattle.spanning_tree.proofs.tree.Tree.new.Goals as goal
-
-pub loop-x-init : goal.loop-x-init
-loop-x-init c = filling_none _ _ (omega arith)
-
-pub loop-x-preserved : goal.loop-x-preserved
-loop-x-preserved c =
-    let l = c.loop-x in
-    filling_more l.invariant (omega arith) (listed_here c.args.n c.args.parents.now l.x (omega arith))
 
 pub returns : goal.returns
 returns c =
-    (refl, (refl, held_all c.args.n _ c.args.parents.now _ _ c.held_count-count.ensures refl refl (filling_end c.loop-x.invariant c.loop-x-test.false)))
+    let count = c.min-count.ensures ∙ ap (λ (k : ℕ). min k (length c.args.parents.now)) c.min.ensures in
+    (refl, (refl, held_all c.args.n _ c.args.parents.now (replicate 64 0) _ count refl refl c.copy_from_slice.ensures.after))

@@ -169,8 +169,8 @@ pub extern "C" fn mover_solve(
         parents.new potential.new plan.new }
 {
     let graph = Graph { n, a, b, lengths };
-    let problem = Problem { graph, mu, nu };
-    match optimal_transport::solve(&problem, parents, potential, plan) {
+    let lent = Problem { graph, mu, nu };
+    match optimal_transport::solve(&lent, parents, potential, plan) {
         Ok(solution) => {
             *cost = solution.cost;
             *moves = solution.moves;

@@ -31,15 +31,17 @@ fn take_apart(edges: &[EdgeRecord]) -> Columns
     requires { length edges.now ≤ 512 }
     ensures { result ≡ columns_of edges.now (length edges.now) }
 {
-    let mut a = [0u32; 512];
-    let mut b = [0u32; 512];
-    let mut lengths = [0u32; 512];
+    let mut columns = Columns {
+        a: [0; 512],
+        b: [0; 512],
+        lengths: [0; 512],
+    };
     for (i, e) in edges.iter().enumerate() {
-        a[i] = e.a;
-        b[i] = e.b;
-        lengths[i] = e.length;
+        columns.a[i] = e.a;
+        columns.b[i] = e.b;
+        columns.lengths[i] = e.length;
     }
-    Columns { a, b, lengths }
+    columns
 }
 
 // The answers and refusals of `distances` on the three lists of the records' fields.

@@ -6,7 +6,7 @@ ghost use Rattle.arithmetic.specs.Table.{at};
 ghost use Rattle.rooted_tree.specs.Steps.Subtotal.{subtotal};
 ghost use Rattle.graph.specs.Graph.{graph};
 ghost use Rattle.arithmetic.specs.Steps.Fill.{Filled};
-ghost use Rattle.tree_pivot.specs.Steps.Basis.{IsBasis, tables_of};
+ghost use Rattle.tree_pivot.specs.Steps.Basis.{IsBasis, Places, tables_of};
 ghost use Rattle.first_basis.specs.Steps.Perturbed.{supply_of, demand_of, perturbed};
 ghost use Rattle.first_basis.specs.Steps.FirstBasis.{CanMeasure, LengthsAbove, CanPerturb, CanWeigh, CanStart, StartInput, subtree_mask};
 
@@ -71,6 +71,32 @@ fn fill_subtrees(n: usize, parents: &[u32; 64], mu: &[u64], nu: &[u64], subtrees
     );
 }
 
+// Fills in what a basis has beside the parents of its spanning tree, from the edges to them: in place, as a basis is too large to be moved for nothing.
+pub fn fill_basis(
+    n: usize,
+    lengths: &[u32],
+    mu: &[u64],
+    nu: &[u64],
+    edge: &[u32; 64],
+    basis: &mut Basis,
+)
+    requires { StartInput n lengths.now mu.now nu.now basis.old.parents edge.now × Places (tables_of basis.old) }
+    ensures tree { basis.new.parents ≡ basis.old.parents }
+    ensures basis { (a b : List ℕ)
+        → CanStart (graph n a b lengths.now) mu.now nu.now basis.old.parents edge.now
+        → IsBasis (graph n a b lengths.now) (supply_of (at mu.now)) (demand_of n (at nu.now)) (tables_of basis.new) }
+{
+    lengths_above(n, lengths, edge, &mut basis.above);
+    fill_subtrees(n, &basis.parents, mu, nu, &mut basis.subtrees);
+    potential::potential(
+        n,
+        &basis.parents,
+        &basis.above,
+        &basis.subtrees,
+        &mut basis.potential,
+    );
+}
+
 // The basis of a spanning tree, given by the parents and the edges to them.
 pub fn tree_basis(
     n: usize,
@@ -81,7 +107,8 @@ pub fn tree_basis(
     edge: &[u32; 64],
 ) -> Basis
     requires { StartInput n lengths.now mu.now nu.now parents.now edge.now }
-    ensures { (a b : List ℕ)
+    ensures tree { result.parents ≡ parents.now }
+    ensures basis { (a b : List ℕ)
         → CanStart (graph n a b lengths.now) mu.now nu.now parents.now edge.now
         → IsBasis (graph n a b lengths.now) (supply_of (at mu.now)) (demand_of n (at nu.now)) (tables_of result) }
 {
@@ -95,14 +122,6 @@ pub fn tree_basis(
         },
         potential: [0; 64],
     };
-    lengths_above(n, lengths, edge, &mut basis.above);
-    fill_subtrees(n, parents, mu, nu, &mut basis.subtrees);
-    potential::potential(
-        n,
-        parents,
-        &basis.above,
-        &basis.subtrees,
-        &mut basis.potential,
-    );
+    fill_basis(n, lengths, mu, nu, edge, &mut basis);
     basis
 }

@@ -76,13 +76,13 @@ impl Graph<'_> {
         fits
     }
 
-    // Check 4: each length is at most 65,535.
+    // Check 4: each edge's length is at most 65,535.
     pub fn lengths_fit(&self) -> bool
-        requires { length self.now.lengths.now ≡ length self.now.a.now }
+        requires { length self.now.a.now ≤ length self.now.lengths.now }
         ensures { result ≡ lengths_ok (graph_of self.now) }
     {
         let mut fits = true;
-        for &size in self.lengths {
+        for &size in &self.lengths[..self.a.len()] {
             fits &= size <= 65535;
         }
         fits

@@ -1,2 +1,3 @@
 pub mod Cases
+pub mod Fills
 pub mod Tables

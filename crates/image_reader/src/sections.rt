@@ -7,7 +7,7 @@ ghost use Rattle.image_reader.specs.Reading.{root_number, tree_mark};
 ghost use Rattle.image_reader.specs.Steps.Held.{Held};
 
 use image::{TREE, edge_count, extent, offset, vertex_count};
-use little_endian::read::{get, get_four, get_two};
+use little_endian::read::{fill_bytes, fill_fours, fill_twos, get};
 
 // The edges: lower ends, upper ends and lengths.
 pub fn fill_edges(image: &[u8], a: &mut [u32], b: &mut [u32], lengths: &mut [u32])
@@ -19,13 +19,11 @@ pub fn fill_edges(image: &[u8], a: &mut [u32], b: &mut [u32], lengths: &mut [u32
     ensures lengths_after { lengths.new
         ≡ written 0 (tab (edge_count image.now) (edge_length_of image.now)) lengths.old }
 {
+    let m = edge_count(image);
     let from = offset(image, 0);
-    for e in 0..edge_count(image) {
-        let entry = from + 4 * e;
-        a[e] = get(image, entry);
-        b[e] = get(image, entry + 1);
-        lengths[e] = get_two(image, entry + 2);
-    }
+    fill_bytes(image, from, 4, m, a);
+    fill_bytes(image, from + 1, 4, m, b);
+    fill_twos(image, from + 2, m, lengths);
 }
 
 // The amounts of painting t.
@@ -35,10 +33,7 @@ pub fn fill_amounts(image: &[u8], t: usize, out: &mut [u64])
     ensures { out.new
         ≡ written 0 (tab (vertex_count image.now) (amount image.now t)) out.old }
 {
-    let from = offset(image, t + 1);
-    for x in 0..vertex_count(image) {
-        out[x] = get_four(image, from + 4 * x) as u64;
-    }
+    fill_fours(image, offset(image, t + 1), vertex_count(image), out);
 }
 
 // The tree's parents, or nothing without a tree.
@@ -50,10 +45,13 @@ pub fn fill_parents(image: &[u8], parents: &mut [u32])
         parents.old }
 {
     if extent(image, TREE) != 0 {
-        let from = offset(image, TREE) + 1;
-        for x in 0..vertex_count(image) {
-            parents[x] = get(image, from + x);
-        }
+        fill_bytes(
+            image,
+            offset(image, TREE) + 1,
+            1,
+            vertex_count(image),
+            parents,
+        );
     }
 }
 

@@ -1,7 +1,7 @@
 // Checks 6 and 7: two measures on the vertices (document 01's paintings) and their totals.
 #![tactic(auto)]
 
-ghost use Rattle.std.specs.Prelude.{◌≡◌, ◌≤◌, ◌<◌, ◌^◌, length, IfOk, IfErr};
+ghost use Rattle.std.specs.Prelude.{◌≡◌, ◌+◌, ◌≤◌, ◌<◌, ◌^◌, min, length, IfOk, IfErr};
 ghost use Rattle.arithmetic.specs.Sum.{sum};
 ghost use Rattle.arithmetic.specs.Table.{at};
 ghost use Rattle.arithmetic.specs.Refusal.{refusal};
@@ -24,6 +24,14 @@ pub fn total(n: usize, amounts: &[u64]) -> Result<u64, Refusal>
         t += v;
     }
     Ok(t)
+}
+
+// the same, with 16,777,217 for a total that is refused
+pub fn capped_total(n: usize, amounts: &[u64]) -> u64
+    requires { n ≤ length amounts.now }
+    ensures { result ≡ min (sum n (at amounts.now)) (2 ^ 24 + 1) }
+{
+    total(n, amounts).unwrap_or(16777217)
 }
 
 // checks 6 and 7

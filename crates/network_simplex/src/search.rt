@@ -10,7 +10,7 @@ ghost use Rattle.network_simplex.specs.Steps.Search.{CanSearch, Improved, Optimi
 use graph::Graph;
 use spanning_tree::tree::Tree;
 use transport_problem::Problem;
-use tree_pivot::Basis;
+use tree_pivot::{Basis, Subtrees};
 
 // One step: edge e, which the potential violates, enters, and another leaves.
 fn improve(g: &Graph<'_>, e: usize, basis: &mut Basis)
@@ -49,13 +49,23 @@ pub fn best_tree(problem: &Problem<'_>, first: &[u32; 64], edge: &[u32; 64]) -> 
     ensures { BestTree (graph_of problem.now.graph) (at problem.now.mu.now) (at problem.now.nu.now)
         result.tree.n result.tree.root result.tree.parents result.above result.potential }
 {
-    let mut basis = first_basis::tree_basis(
+    let mut basis = Basis {
+        parents: *first,
+        above: [0; 64],
+        subtrees: Subtrees {
+            supply: [0; 64],
+            demand: [0; 64],
+            masks: [0; 64],
+        },
+        potential: [0; 64],
+    };
+    first_basis::fill_basis(
         problem.graph.n,
         problem.graph.lengths,
         problem.mu,
         problem.nu,
-        first,
         edge,
+        &mut basis,
     );
     search(&problem.graph, &mut basis);
     Optimum {

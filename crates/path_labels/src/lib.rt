@@ -73,9 +73,12 @@ pub fn sweep_up(g: &Graph<'_>, parents: &mut [u32], edge: &mut [u32], labels: &m
     ensures { SweepsUp g.now.a.now g.now.b.now g.now.lengths.now (length g.now.a.now)
         parents.old edge.old labels.old result parents.new edge.new labels.new }
 {
+    let Graph { a, b, lengths, .. } = *g;
     let mut lowered = false;
-    for e in 0..g.a.len() {
-        lowered |= relax(g.a, g.b, g.lengths, e, parents, edge, labels);
+    for e in 0..a.len() {
+        if relax(a, b, lengths, e, parents, edge, labels) {
+            lowered = true;
+        }
     }
     lowered
 }
@@ -87,9 +90,12 @@ fn sweep_down(g: &Graph<'_>, parents: &mut [u32], edge: &mut [u32], labels: &mut
     ensures { SweepsDown g.now.a.now g.now.b.now g.now.lengths.now 0
         parents.old edge.old labels.old result parents.new edge.new labels.new }
 {
+    let Graph { a, b, lengths, .. } = *g;
     let mut lowered = false;
-    for e in (0..g.a.len()).rev() {
-        lowered |= relax(g.b, g.a, g.lengths, e, parents, edge, labels);
+    for e in (0..a.len()).rev() {
+        if relax(b, a, lengths, e, parents, edge, labels) {
+            lowered = true;
+        }
     }
     lowered
 }

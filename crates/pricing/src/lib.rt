@@ -59,16 +59,14 @@ fn scaled(potential: u32, supply: u64, demand: u64) -> u64
 }
 
 // The scaled potential of every vertex.
-fn scaled_potential(n: usize, basis: &Basis) -> [u64; 64]
-    requires { (n ≤ 64) × EachBelow n (at basis.now.potential) (2 ^ 24) }
-    ensures { AllScaled n basis.now.potential result }
+fn scale_potential(n: usize, basis: &Basis, out: &mut [u64; 64])
+    requires { (n ≤ 64) × (length out.old ≡ 64) × EachBelow n (at basis.now.potential) (2 ^ 24) }
+    ensures { AllScaled n basis.now.potential out.new }
 {
     let subtrees = &basis.subtrees;
-    let mut out = [0u64; 64];
     for x in 0..n {
         out[x] = scaled(basis.potential[x], subtrees.supply[x], subtrees.demand[x]);
     }
-    out
 }
 
 // The scaled violation of edge e: what the scaled potential changes along it beyond its scaled length.
@@ -144,7 +142,8 @@ pub fn entering_edge(g: &Graph<'_>, basis: &Basis, block: usize) -> Option<usize
         × EachBelow g.now.n (at basis.now.potential) (2 ^ 24) }
     ensures { Entering (graph_of g.now) basis.now.potential result }
 {
-    let scaled = scaled_potential(g.n, basis);
+    let mut scaled = [0u64; 64];
+    scale_potential(g.n, basis, &mut scaled);
     let blocks = g.a.len().div_ceil(BLOCK);
     match most_violated_from(g, &scaled, block, blocks) {
         Some(e) => Some(e),

@@ -15,6 +15,16 @@ ghost use Rattle.subtree_sums.specs.Steps.Sums.{Light, Layered, Slopes, Heights,
 use tree_walks::walk::subtree_masks;
 use vertex_set::{lowest_vertex, shift_word};
 
+// The first n numbers of a list. The library's `copy_from_slice` calls memmove here, and the archives need memcpy and memset alone.
+fn copy(n: usize, from: &[u64], to: &mut [u64])
+    requires { (n ≤ length from.now) × (n ≤ length to.old) }
+    ensures { Filled n (at from.now) to.old to.new }
+{
+    for x in 0..n {
+        to[x] = from[x];
+    }
+}
+
 // by falling depth each vertex adds its two masses to those of its parent: so they become the masses below each vertex
 fn sum_below(n: usize, parents: &[u32], depths: &[u32], supply: &mut [u64], demand: &mut [u64])
     requires n_bound { (n ≤ 64) × ((n ≤ length parents.now) × Layered n (at parents.now) depths.now) }
@@ -82,7 +92,7 @@ pub fn subtree_tables(
     ensures second { Filled n (subtotal (at parents.now) n (at nu.now)) demand.old demand.new }
 {
     subtree_masks(n, root, parents, depths, masks);
-    supply[..n].copy_from_slice(&mu[..n]);
-    demand[..n].copy_from_slice(&nu[..n]);
+    copy(n, mu, supply);
+    copy(n, nu, demand);
     sum_below(n, parents, depths, supply, demand);
 }

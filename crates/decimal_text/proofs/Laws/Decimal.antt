@@ -70,6 +70,15 @@ digits_least (suc k) (suc m) x g h =
 pub width_is : (m x : ℕ) → m < 20 → 10 ^ m ≤ x → x < 10 * 10 ^ m → m + 1 ≡ length (decimal x)
 width_is m x g h l = omega (arith, digits_least 20 m x g h, length-decimal m x (omega (arith, pow-suc 10 m)))
 
+-- the same, counted from the last digit on: `width` are counted, and those of x are left but for one that every number has
+pub width_more : (width x whole : ℕ) → x < 2 ^ 64 → 9 < x → width + length (decimal x) ≡ whole → width + 1 + length (decimal (x / 10)) ≡ whole
+width_more width x whole h g e =
+    let f = ap length (decimal_step x h (omega arith)) in
+    omega (arith, length-append (decimal (x / 10)) ((48 + x % 10) ∷ []))
+
+pub width_end : (width x whole : ℕ) → x ≤ 9 → width + length (decimal x) ≡ whole + 1 → width ≡ whole
+width_end width x whole h e = let f = ap length (decimal_last x (omega arith)) in omega arith
+
 pub width_none : (x : ℕ) → x ≡ 0 → 1 ≡ length (decimal x)
 width_none x e = rw e (sym (ap length (decimal_last 0 (omega arith))))
 

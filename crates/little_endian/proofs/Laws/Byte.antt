@@ -1,12 +1,12 @@
 -- Numbers in bytes as code stores them, and tables and sections filled with them.
 use mathlib.Core.Path.{◌≡◌, refl, sym, ◌∙◌}
-use mathlib.Core.List.{List, ◌++◌, append_assoc}
-use Prim.Native.Nat.{ℕ, zero, suc, ◌+◌, ◌-◌, ◌*◌, ◌≤◌, ◌<◌}
+use mathlib.Core.List.{List, [], ◌∷◌, ◌++◌, append_assoc}
+use Prim.Native.Nat.{ℕ, zero, suc, ◌+◌, ◌-◌, ◌*◌, ◌/◌, ◌%◌, ◌≤◌, ◌<◌}
 use native.Mathlib.Numerals.{add-one}
 use native.Mathlib.Nat.{div-one}
 use native.Mathlib.Omega.{arith}
 use lib.ListN.{length, set, take}
-use lib.Seq.{drop-drop}
+use lib.Seq.{drop-drop, sets-eq}
 use borrow.Rule.Slice.PartMut.{post_of}
 use Rattle.std.specs.Int.{w64, byte_at, bytes_low_first, to_le_bytes}
 use Rattle.std.proofs.lemmas.List.{length-take-le, get_or-take}
@@ -44,6 +44,12 @@ unfolding placed
 stored p n x l y w h d e =
     let k : p + n - p ≡ n = omega arith in
     rw (e, d, low_bytes x n h, length-tab n (byte_of x), k, drop-drop, append_assoc)
+
+-- and two bytes, stored one by one
+pub two_stores : (p x : ℕ) (l : List ℕ) → p + 2 ≤ length l
+    → set (set l p (x % 256)) (p + 1) (x / 256 % 256) ≡ placed p (tab 2 (byte_of x)) l
+unfolding tab byte_of placed
+two_stores p x l h = let e : p + 1 ≡ suc p = omega arith in rw (div-one x, e) (sets-eq (x % 256 ∷ x / 256 % 256 ∷ []) l p h)
 
 -- ---- a lent table that is filled from the front
 module _ (f : ℕ → ℕ) {n : ℕ} {lent : List ℕ} where

@@ -1,7 +1,7 @@
 -- The laws of labelled trees: what it takes to hang a vertex elsewhere, what a sweep of the edges and a round of sweeps do, and what is known at the end.
 use Prim.Native.Nat.{ℕ, ◌+◌, ◌*◌, ◌≤◌, ◌<◌}
 use mathlib.Core.Path.{◌≡◌, refl, sym, ap, ◌∙◌}
-use mathlib.Core.Bool.{Bool, true, false, ◌||◌, or-true, or-false}
+use mathlib.Core.Bool.{Bool, true, false, cond}
 use mathlib.Core.List.{List}
 use mathlib.Core.Logic.{inl, inr}
 use native.Mathlib.Omega.{arith}
@@ -215,14 +215,14 @@ module _ {g : Graph} {root : ℕ} {from to : List ℕ} (way : Way g from to) whe
         (λ z. rw z (omega (arith, step_lowers.holds, rw z at o)))
         (λ z. let q = rest e le he z in omega (arith, o, step_lowers.lower (at to e), k.feasible e q.0 q.1))
 
-    swept_more : Swept g root from to lo' hi' p s labels (r || d) p' s' labels'
-    swept_more = record {
+    swept_more : (r' : Bool) → r' ≡ cond d true r → Swept g root from to lo' hi' p s labels r' p' s' labels'
+    swept_more r' q = record {
       labelled = step_lowers.labelled;
       less =
           case d
-          (λ z. rw (z, or-true r) (omega (arith, rw z at step_lowers.less, k.less)))
-          (λ z. rw (z, or-false r, step_lowers.same z) k.less);
-      same = λ f. case d (λ z. clash (or-true r) (rw z at f)) (λ z. step_lowers.same z ∙ k.same (sym (or-false r) ∙ rw z at f));
+          (λ z. rw (q, z) (omega (arith, rw z at step_lowers.less, k.less)))
+          (λ z. rw (q, step_lowers.same z, z) k.less);
+      same = λ f. case d (λ z. clash (q ∙ rw z) f) (λ z. step_lowers.same z ∙ k.same (sym (q ∙ rw z) ∙ f));
       feasible = still_feasible;
     }
 
@@ -233,10 +233,10 @@ module _ {a b lengths p s labels : List ℕ} {i : ℕ} {r : Bool} {p₁ s₁ lab
   up_can z = let m = z.1.1 in can_relax (upward m.can.formed) (k _ _ m).labelled i l
 
   pub up_more : {d : Bool} {p' s' labels' : List ℕ} → Relaxed (at a i) (at b i) i (weight_of (at lengths i)) p₁ s₁ labels₁ d p' s' labels'
-      → SweepsUp a b lengths (i + 1) p s labels (r || d) p' s' labels'
-  up_more t n root m =
+      → (r' : Bool) → r' ≡ cond d true r → SweepsUp a b lengths (i + 1) p s labels r' p' s' labels'
+  up_more t r' c n root m =
       let f = m.can.formed in
-      swept_more (upward f) (k n root m) i l 0 (i + 1) (λ e _ h. up_apart f i e (omega arith) l) (λ e g h d. (omega arith, omega arith)) t
+      swept_more (upward f) (k n root m) i l 0 (i + 1) (λ e _ h. up_apart f i e (omega arith) l) (λ e g h d. (omega arith, omega arith)) t r' c
 
 -- ---- a sweep downward
 module _ {a b lengths p s labels : List ℕ} {e : ℕ} {r : Bool} {p₁ s₁ labels₁ : List ℕ} (k : SweepsDown a b lengths e p s labels r p₁ s₁ labels₁)
@@ -245,10 +245,10 @@ module _ {a b lengths p s labels : List ℕ} {e : ℕ} {r : Bool} {p₁ s₁ lab
   down_can z = let m = z.1.1 in can_relax (downward m.can.formed) (k _ _ m).labelled i l
 
   pub down_more : {d : Bool} {p' s' labels' : List ℕ} → Relaxed (at b i) (at a i) i (weight_of (at lengths i)) p₁ s₁ labels₁ d p' s' labels'
-      → SweepsDown a b lengths i p s labels (r || d) p' s' labels'
-  down_more t n root m =
+      → (r' : Bool) → r' ≡ cond d true r → SweepsDown a b lengths i p s labels r' p' s' labels'
+  down_more t r' c n root m =
       let f = m.can.formed in
-      swept_more (downward f) (k n root m) i l i (length a) (down_apart f i) (λ x g h d. (omega arith, omega arith)) t
+      swept_more (downward f) (k n root m) i l i (length a) (down_apart f i) (λ x g h d. (omega arith, omega arith)) t r' c
 
 -- ---- a round: a sweep down that lowers no label, or one down and one up
 module _ {a b lengths p s labels : List ℕ} {r : Bool} {p₁ s₁ labels₁ : List ℕ} (k : SweepsDown a b lengths 0 p s labels r p₁ s₁ labels₁) where

@@ -2,6 +2,10 @@
 use Rattle.std.specs.Prelude.{ℕ, Bool, not, ◌&&◌, eqb, ltb}
 use Rattle.arithmetic.specs.Sum.{pick}
 
+-- 1 where i sends anything to j, else 0
+unfoldable pub positive_at : (ℕ → ℕ → ℕ) → ℕ → ℕ → ℕ
+positive_at t i j = pick (ltb 0 (t i j)) 1
+
 -- whether what i sends to j is a move
 abbrev pub is_move : (ℕ → ℕ → ℕ) → ℕ → ℕ → Bool
 is_move t i j = not (eqb i j) && ltb 0 (t i j)

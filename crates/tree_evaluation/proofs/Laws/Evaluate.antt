@@ -5,7 +5,7 @@ use mathlib.Core.List.{List, ◌++◌}
 use native.Mathlib.Omega.{arith}
 use lib.IntN.{ℤ, pos, sub_ℕ}
 use lib.ListN.{length, drop, get_or}
-use Rattle.arithmetic.specs.Table.{at, tab}
+use Rattle.arithmetic.specs.Table.{at, tab, matrix}
 use Rattle.arithmetic.specs.Mask.{mask}
 use Rattle.arithmetic.specs.Steps.Fill.{Filled}
 use Rattle.arithmetic.proofs.Laws.Table.{length-tab, length-rows, front_at, front_length, result_refused, written_refused}
@@ -18,6 +18,7 @@ use Rattle.spanning_tree.specs.TreeValue.{parents_held}
 use Rattle.given_tree.specs.Given.{Given, answers_ok}
 use Rattle.given_tree.specs.Steps.Given.{GivenChecked}
 use Rattle.given_tree.proofs.Laws.Given.{GivenAccepted, given-passed, given_accepted, room_within}
+use Rattle.plan_rule.specs.Plan.{plan, moves}
 use Rattle.tree_figures.specs.Figures.{imbalance, potential, tree_cost}
 use Rattle.tree_figures.specs.Steps.Tables.{Short, LengthsTo, Moderate, cost_from, potential_from}
 use Rattle.tree_figures.proofs.Laws.Figure.{imbalance_moderate, imbalance_table, cost_table, potential_table}
@@ -26,6 +27,13 @@ use Rattle.tree_evaluation.specs.Steps.EvaluateTree.{Weighted, Evaluable, TreeEv
 use Rattle.tree_evaluation.proofs.Laws.GivenTree.{given_weighted, given_evaluable, given_holds, given_same}
 
 -- ---- an accepted tree
+
+-- its imbalances, its cost, and its plan
+pub tree_evaluated : {g : Graph} {r : ℕ} {p mu nu : ℕ → ℕ} {imbalances imbalances' : List ℤ} {entries entries' : List ℕ} {cost moved : ℕ}
+    → imbalances' ≡ tab g.n (imbalance g.n p mu nu) ++ drop g.n imbalances → cost ≡ tree_cost g r p mu nu
+    → (entries' ≡ matrix g.n (plan g.n r p mu nu) ++ drop (g.n * g.n) entries) × (moved ≡ moves g.n (plan g.n r p mu nu))
+    → TreeEvaluated g r p mu nu imbalances entries cost moved imbalances' entries'
+tree_evaluated i c e = record { cost_is = c; moves_are = e.1; imbalance_is = i; plan_is = e.0 }
 
 -- the imbalances follow from the masses a and b of mu and nu below each vertex
 pub imbalances_found : (n : ℕ) (p mu nu : ℕ → ℕ) {a a' b b' : List ℕ} (imbalances : List ℤ) {imbalances' : List ℤ}

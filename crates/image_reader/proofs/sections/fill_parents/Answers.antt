@@ -1,16 +1,15 @@
-use Rattle.std.proofs.Common.{rules}
 use native.Mathlib.Omega.{arith}
-use borrow.Author.Tests.{ne_eqb}
-use Rattle.little_endian.proofs.Laws.Byte.{table_none, table_more, table_end}
-use Rattle.image.specs.Image.{extent, tree_section}
+use Rattle.image_reader.proofs.Laws.Fills.{parents_filled, parents_kept}
 use Rattle.image_reader.proofs.sections.fill_parents.Goals as goal
 
-pub loop-x-init : goal.loop-x-init
-loop-x-init c = table_none _
+-- `fill_parents` meets its contract.
+pub fill_bytes-requires : goal.fill_bytes-requires
+fill_bytes-requires c =
+    let whole = c.requires.held.tree (λ z. omega arith) in
+    (omega arith, λ e h. omega (arith, whole))
 
-pub loop-x-preserved : goal.loop-x-preserved
-loop-x-preserved c = table_more _ c.loop-x.invariant (omega arith) (omega arith) (search rules)
+pub returns-then-extent-ne0 : goal.returns-then-extent-ne0
+returns-then-extent-ne0 c = search parents_filled
 
-pub returns-after-loop-x : goal.returns-after-loop-x
-returns-after-loop-x c =
-    rw (ne_eqb (extent c.args.image.now (tree_section c.args.image.now)) 0 (λ z. omega (arith, z))) (table_end _ c.loop-x.invariant (omega arith))
+pub returns-else-extent-ne0 : goal.returns-else-extent-ne0
+returns-else-extent-ne0 c = search parents_kept

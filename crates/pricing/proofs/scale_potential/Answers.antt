@@ -1,12 +1,12 @@
-use Rattle.std.proofs.Common.{refl, ◌∙◌, arith, length-set}
+use Rattle.std.proofs.Common.{◌∙◌, arith, length-set}
 use Rattle.pricing.proofs.Laws.Entering.{scaled_more}
-use Rattle.pricing.proofs.scaled_potential.Goals as goal
+use Rattle.pricing.proofs.scale_potential.Goals as goal
 
 pub loop-x-init : goal.loop-x-init
-loop-x-init c = (refl, record { each = λ y l. absurd (omega arith) })
+loop-x-init c = (c.requires.1, record { each = λ y l. absurd (omega arith) })
 
 pub scaled-requires : goal.scaled-requires
-scaled-requires c = c.requires.1 _ (omega arith)
+scaled-requires c = c.requires.2 _ (omega arith)
 
 pub loop-x-preserved : goal.loop-x-preserved
 loop-x-preserved c =
